@@ -1,0 +1,235 @@
+-- What is in a set that was made from others, and that a set is what is in it.
+use Rattle.std.proofs.Common.{◌≡◌, ℕ, zero, suc, ◌+◌, ◌<◌, ◌≤◌, ◌⊎◌, inl, inr, Bool, true, false, cond, not, ◌&&◌, ◌||◌, IsTrue, T, List, [], ◌∷◌, ◌++◌, map, length, slice_get, Option, Some, None, refl, sym, ap, ◌∙◌, subst, is_some, Contains, arith}
+use Rattle.std.specs.declared.cmp.Ordering.{Ordering}
+use Rattle.std.specs.declared.cmp.Ordering.TheVariants.{Less, Equal, Greater}
+use Rattle.std.specs.Ordering.{is_eq, is_lt, eq_by_cmp}
+use Rattle.std.specs.Cmp.{IsTotalOrder, tied_itself}
+use Rattle.std.specs.List.{list_any}
+use Rattle.std.proofs.lemmas.Cmp.{eq_by_cmp_equiv}
+use Rattle.std.proofs.lemmas.Map.Views.{list_any-from_Contains, Contains-from_any}
+use Rattle.std.specs.List.Sorted.{IsPermutation}
+use Rattle.std.proofs.lemmas.List.Sorted.{Contains-permutation, IsPermutation-sym}
+use Rattle.std.specs.FinMap as finite
+use Rattle.std.specs.FinMap.{IsAntisymmetric}
+use Rattle.std.specs.FinMap.Entries.{below_all}
+use Rattle.std.proofs.lemmas.Option.{slice_get_within, get_or_from_slice_get, slice_get-get_or}
+use Rattle.rdf_terms.specs.Set.{Set, is_rising, items, has, with, including, of_list, without, edited, empty, marked}
+
+or_right : (a b : Bool) → b ≡ true → (a || b) ≡ true
+or_right true b e = refl
+or_right false b e = e
+
+or_false : (a : Bool) → (a || false) ≡ a
+or_false true = refl
+or_false false = refl
+
+equal_of : (r : Ordering) → is_eq r ≡ true → r ≡ Equal
+equal_of Less e = cc
+equal_of Equal e = refl
+equal_of Greater e = cc
+
+both_left : (a b : Bool) → (a && b) ≡ true → a ≡ true
+both_left true b e = refl
+both_left false b e = e
+
+both_right : (a b : Bool) → (a && b) ≡ true → b ≡ true
+both_right true b e = e
+both_right false b e = cc
+
+less_of : (o : Ordering) → is_lt o ≡ true → o ≡ Less
+less_of Less e = refl
+less_of Equal e = cc
+less_of Greater e = cc
+
+true_of : (b : Bool) → T b → b ≡ true
+true_of true h = refl
+true_of false h = absurd h
+
+pub has-empty : {K : Type 0} (R : K → K → Ordering) (q : K) → has (empty {R = R}) q ≡ false
+has-empty R q = ap is_some (finite.get-empty R q)
+
+module _ {K : Type 0} {R : K → K → Ordering} where
+  pub has-items : (s : Set R) (q : K) → has s q ≡ list_any (eq_by_cmp R q) (items s)
+  has-items s q = finite.contains_key-keys s q
+
+  -- a set lists its items in order
+  pub items_rise : (s : Set R) → is_rising R (items s) ≡ true
+  items_rise s = true_of _ (subst (λ es. T (finite.is_sorted R es)) (sym (marked-map (finite.entries s))) (finite.entries_sorted s))
+    where
+      marked-map : (es : List (K × Unit {0})) → marked (map (λ e. e.0) es) ≡ es
+      marked-map [] = refl
+      marked-map (e ∷ es) = ap (λ fs. e ∷ fs) (marked-map es)
+
+module _ {K : Type 0} {R : K → K → Ordering} (o : IsTotalOrder R) where
+  pub has-with : (s : Set R) (x q : K) → has (with s x) q ≡ (eq_by_cmp R q x || has s q)
+  has-with s x q = ap is_some (finite.get-insert o s x tt q) ∙ some_or (eq_by_cmp R q x) (finite.get s q)
+    where
+      some_or : (b : Bool) (m : Option (Unit {0})) → is_some (cond b (Some tt) m) ≡ (b || is_some m)
+      some_or true m = refl
+      some_or false m = refl
+
+  pub has_with_same : (s : Set R) (x : K) → has (with s x) x ≡ true
+  has_with_same s x = has-with s x x ∙ ap (λ r. is_eq r || has s x) (tied_itself o x)
+
+  pub has_with_kept : (s : Set R) (x q : K) → has s q ≡ true → has (with s x) q ≡ true
+  has_with_kept s x q h = has-with s x q ∙ or_right _ _ h
+
+  pub has-including : (s : Set R) (xs : List K) (q : K) → has (including s xs) q ≡ (has s q || list_any (eq_by_cmp R q) xs)
+  has-including s [] q = sym (or_false (has s q))
+  has-including s (x ∷ xs) q = has-with (including s xs) x q ∙ ap (λ b. eq_by_cmp R q x || b) (has-including s xs q) ∙ swap_or (eq_by_cmp R q x) (has s q) (list_any (eq_by_cmp R q) xs)
+    where
+      swap_or : (a b c : Bool) → (a || (b || c)) ≡ (b || (a || c))
+      swap_or true true c = refl
+      swap_or true false c = refl
+      swap_or false b c = refl
+
+  pub has-of_list : (xs : List K) (q : K) → has (of_list {R = R} xs) q ≡ list_any (eq_by_cmp R q) xs
+  has-of_list xs q = has-including empty xs q ∙ ap (λ b. b || list_any (eq_by_cmp R q) xs) (has-empty R q)
+
+  pub has_of_list_item : (xs : List K) (q : K) → Contains xs q → has (of_list {R = R} xs) q ≡ true
+  has_of_list_item xs q h = has-of_list xs q ∙ list_any-from_Contains (eq_by_cmp_equiv o) q xs h
+
+  -- an item that is new makes the set longer by one
+  pub length-with : (s : Set R) (x : K) → has s x ≡ false → length (items (with s x)) ≡ length (items s) + 1
+  length-with s x h = sym (len-items (with s x)) ∙ finite.len-insert o s x tt ∙ ap (λ b. cond b (finite.len s) (finite.len s + 1)) h ∙ ap (λ n. n + 1) (len-items s)
+    where
+      length-map : {A B : Type 0} (f : A → B) (xs : List A) → length xs ≡ length (map f xs)
+      length-map f [] = refl
+      length-map f (x ∷ xs) = ap (λ n. suc n) (length-map f xs)
+
+      len-items : (s : Set R) → finite.len s ≡ length (items s)
+      len-items s = finite.len-entries s ∙ length-map (λ e. e.0) (finite.entries s)
+
+module _ {K : Type 0} {R : K → K → Ordering} (o : IsTotalOrder R) (same : IsAntisymmetric R) where
+  pub has-without : (s d : Set R) (q : K) → has (without s d) q ≡ (has s q && not (has d q))
+  has-without s d q = ap is_some (finite.get-retain_keys s (λ x. not (has d x)) q (λ x e. ap (λ y. not (has d y)) (sym (same q x e)))) ∙ none_or (not (has d q)) (finite.get s q)
+    where
+      none_or : (b : Bool) (m : Option (Unit {0})) → is_some (cond b m None) ≡ (is_some m && b)
+      none_or true None = refl
+      none_or true (Some u) = refl
+      none_or false None = refl
+      none_or false (Some u) = refl
+
+  pub has-edited : (s a d : Set R) (q : K) → has (edited s a d) q ≡ ((has s q && not (has d q)) || has a q)
+  has-edited s a d q = has-including o (without s d) (items a) q ∙ (λ i. has-without s d q i || sym (has-items a q) i)
+
+  pub has_item : (s : Set R) (q : K) → Contains (items s) q → has s q ≡ true
+  has_item s q h = has-items s q ∙ list_any-from_Contains (eq_by_cmp_equiv o) q (items s) h
+
+  pub item_of_has : (s : Set R) (q : K) → has s q ≡ true → Contains (items s) q
+  item_of_has s q h = Contains-from_any (λ x y e. same x y (equal_of _ e)) q (items s) (sym (has-items s q) ∙ h)
+
+  pub item_of_has_list : (xs : List K) (q : K) → has (of_list {R = R} xs) q ≡ true → Contains xs q
+  item_of_has_list xs q h = Contains-from_any (λ x y e. same x y (equal_of _ e)) q xs (sym (has-of_list o xs q) ∙ h)
+
+  -- an item at a place is in the set, and what is in the set has a place
+  pub has_at : (s : Set R) (q : K) (i : ℕ) → slice_get (items s) i ≡ Some q → has s q ≡ true
+  has_at s q i h = has_item s q (i, slice_get_within (items s) i q h, get_or_from_slice_get (items s) i q q h)
+
+  pub place_of_has : (s : Set R) (q : K) → has s q ≡ true → (i : ℕ) × (slice_get (items s) i ≡ Some q)
+  place_of_has s q h =
+      let k = item_of_has s q h in
+      (k.0, slice_get-get_or (items s) k.0 q k.1 ∙ ap Some k.2)
+
+  -- the items at two places are in order, so no item has two places
+  pub rises_at : (s : Set R) (x y : K) (i j : ℕ) → slice_get (items s) i ≡ Some x → slice_get (items s) j ≡ Some y → i < j → R x y ≡ Less
+  rises_at s x y i j h k lt = walk (items s) i j (items_rise s) h k lt
+    where
+      walk : (xs : List K) (i j : ℕ) → is_rising R xs ≡ true → slice_get xs i ≡ Some x → slice_get xs j ≡ Some y → i < j → R x y ≡ Less
+      walk [] i j r h k lt = cc
+      walk (z ∷ zs) zero zero r h k lt = absurd (omega arith)
+      walk (z ∷ zs) zero (suc j) r h k lt = let e : z ≡ x = cc in ap (λ w. R w y) (sym e) ∙ below zs j (both_left _ _ r) k
+        where
+          below : (zs : List K) (j : ℕ) → below_all R z (marked zs) ≡ true → slice_get zs j ≡ Some y → R z y ≡ Less
+          below [] j b k = cc
+          below (w ∷ ws) zero b k = let e : w ≡ y = cc in ap (R z) (sym e) ∙ less_of _ (both_left _ _ b)
+          below (w ∷ ws) (suc j) b k = below ws j (both_right _ _ b) k
+      walk (z ∷ zs) (suc i) zero r h k lt = absurd (omega arith)
+      walk (z ∷ zs) (suc i) (suc j) r h k lt = walk zs i j (both_right _ _ r) h k (omega arith)
+
+  pub one_place : (s : Set R) (x : K) (i j : ℕ) → slice_get (items s) i ≡ Some x → slice_get (items s) j ≡ Some x → i ≡ j
+  one_place s x i j h k = at (lt_or_le i j) (lt_or_le j i)
+    where
+      lt_or_le : (k i : ℕ) → (k < i) ⊎ (i ≤ k)
+      lt_or_le k i = grind arith
+
+      never : R x x ≡ Less → ⊥
+      never e = let t : Equal ≡ Less = sym (tied_itself o x) ∙ e in cc
+
+      at : (i < j) ⊎ (j ≤ i) → (j < i) ⊎ (i ≤ j) → i ≡ j
+      at (inl a) b = absurd (never (rises_at s x x i j h k a))
+      at (inr a) (inl b) = absurd (never (rises_at s x x j i k h b))
+      at (inr a) (inr b) = omega arith
+
+  -- two sets are equal where the same items are in them
+  pub same_set : (a b : Set R) → ((q : K) → has a q ≡ has b q) → a ≡ b
+  same_set a b is = finite.same_map o same a b (λ q. got _ _ (is q))
+    where
+      got : (x y : Option (Unit {0})) → is_some x ≡ is_some y → x ≡ y
+      got None None e = refl
+      got None (Some u) e = cc
+      got (Some u) None e = cc
+      got (Some u) (Some v) e = refl
+
+  pub same_within : (a b : Set R) → ((q : K) → IsTrue (has a q) → IsTrue (has b q)) → ((q : K) → IsTrue (has b q) → IsTrue (has a q)) → a ≡ b
+  same_within a b there back = same_set a b (λ q. alike (has a q) (has b q) (there q) (back q))
+    where
+      alike : (x y : Bool) → (IsTrue x → IsTrue y) → (IsTrue y → IsTrue x) → x ≡ y
+      alike true y f g = sym (f refl)
+      alike false true f g = g refl
+      alike false false f g = refl
+
+  -- inserting an item that is there changes nothing
+  pub with_present : (s : Set R) (x : K) → has s x ≡ true → with s x ≡ s
+  with_present s x h = same_set _ _ (λ q. has-with o s x q ∙ at q (R q x) refl)
+    where
+      at : (q : K) (r : Ordering) → R q x ≡ r → (is_eq r || has s q) ≡ has s q
+      at q Less e = refl
+      at q Equal e = sym (ap (has s) (same q x e) ∙ h)
+      at q Greater e = refl
+
+  -- the order of insertions doesn't matter
+  pub with_with : (s : Set R) (x y : K) → with (with s x) y ≡ with (with s y) x
+  with_with s x y = same_set _ _ (λ q. has-with o (with s x) y q ∙ ap (λ b. eq_by_cmp R q y || b) (has-with o s x q) ∙ swap_or (eq_by_cmp R q y) (eq_by_cmp R q x) (has s q) ∙ sym (has-with o (with s y) x q ∙ ap (λ b. eq_by_cmp R q x || b) (has-with o s y q)))
+    where
+      swap_or : (a b c : Bool) → (a || (b || c)) ≡ (b || (a || c))
+      swap_or true true c = refl
+      swap_or true false c = refl
+      swap_or false b c = refl
+
+  pub including-snoc : (s : Set R) (xs : List K) (y : K) → including s (xs ++ y ∷ []) ≡ with (including s xs) y
+  including-snoc s [] y = refl
+  including-snoc s (x ∷ xs) y = ap (λ t. with t x) (including-snoc s xs y) ∙ with_with (including s xs) y x
+
+  -- nor does the order of the items of a list
+  pub of_list-permutation : (xs ys : List K) → IsPermutation xs ys → of_list {R = R} ys ≡ of_list xs
+  of_list-permutation xs ys h = same_within _ _
+      (λ q e. has_of_list_item o xs q (Contains-permutation ys xs q (IsPermutation-sym xs ys h) (item_of_has_list ys q e)))
+      (λ q e. has_of_list_item o ys q (Contains-permutation xs ys q h (item_of_has_list xs q e)))
+
+  pub of_list-items : (s : Set R) → of_list (items s) ≡ s
+  of_list-items s = same_set _ _ (λ q. has-of_list o (items s) q ∙ sym (has-items s q))
+
+  pub without-empty : (d : Set R) → without empty d ≡ empty
+  without-empty d = same_set _ _ (λ q. has-without empty d q ∙ ap (λ b. b && not (has d q)) (has-empty R q) ∙ sym (has-empty R q))
+
+  -- to take one item more and then leave d out
+  pub without-with : (s d : Set R) (x : K) → without (with s x) d ≡ cond (not (has d x)) (with (without s d) x) (without s d)
+  without-with s d x = same_set _ _ (λ q. has-without (with s x) d q ∙ ap (λ b. b && not (has d q)) (has-with o s x q) ∙ at q (R q x) refl (has d x) refl)
+    where
+      at : (q : K) (r : Ordering) → R q x ≡ r → (b : Bool) → has d x ≡ b → ((is_eq r || has s q) && not (has d q)) ≡ has (cond (not b) (with (without s d) x) (without s d)) q
+      at q Less e true h = sym (has-without s d q)
+      at q Greater e true h = sym (has-without s d q)
+      at q Equal e true h = let g : has d q ≡ true = ap (has d) (same q x e) ∙ h in ap not g ∙ sym (has-without s d q ∙ rw g (and_false (has s q)))
+        where
+          and_false : (a : Bool) → (a && false) ≡ false
+          and_false true = refl
+          and_false false = refl
+      at q Less e false h = sym (has-with o (without s d) x q ∙ (λ i. is_eq (e i) || has-without s d q i))
+      at q Greater e false h = sym (has-with o (without s d) x q ∙ (λ i. is_eq (e i) || has-without s d q i))
+      at q Equal e false h = let g : has d q ≡ false = ap (has d) (same q x e) ∙ h in ap not g ∙ sym (has-with o (without s d) x q ∙ ap (λ r. is_eq r || has (without s d) q) e)
+
+  pub including-cond : (b : Bool) (s : Set R) (x : K) (ys : List K) → including (cond b (with s x) s) ys ≡ cond b (with (including s ys) x) (including s ys)
+  including-cond false s x ys = refl
+  including-cond true s x [] = refl
+  including-cond true s x (y ∷ ys) = ap (λ t. with t y) (including-cond true s x ys) ∙ with_with (including s ys) x y

@@ -1,0 +1,13 @@
+use Rattle.rdf_terms.specs.TermOrder.{statement_cmp_total, statement_cmp-IsAntisymmetric}
+use Rattle.rdf_terms.proofs.GraphLaws.{triples_rise}
+use Rattle.rdf_terms.proofs.Sets.{searched_found, searched_place, searched_within}
+use Rattle.rdf_terms.proofs.graph.Graph.place.Goals as goal
+
+pub returns-clause-found : goal.returns-clause-found
+returns-clause-found c = searched_found statement_cmp_total statement_cmp-IsAntisymmetric _ c.as_slice.result.now c.args.triple.now c.binary_search.result c.as_slice.ensures c.binary_search.ensures.bound c.binary_search.ensures.ok
+
+pub returns-clause-absent : goal.returns-clause-absent
+returns-clause-absent c = searched_place statement_cmp_total statement_cmp-IsAntisymmetric _ c.as_slice.result.now c.args.triple.now c.binary_search.result c.as_slice.ensures (rw c.as_slice.ensures (triples_rise c.args.self.now)) c.binary_search.ensures.position
+
+pub returns-clause-within : goal.returns-clause-within
+returns-clause-within c = searched_within _ c.as_slice.result.now c.binary_search.result c.as_slice.ensures c.binary_search.ensures.bound

@@ -1,0 +1,65 @@
+-- A graph is a finite set of triples (RDF 1.1 Concepts 3).
+use Rattle.std.specs.Prelude.{◌≡◌, ℕ, ◌<◌, ◌≤◌, ◌↔◌, Bool, List, Some, length, slice_get}
+use Rattle.std.specs.declared.cmp.Ordering.TheVariants.{Less, Greater}
+use Rattle.std.specs.List.Sorted.{IsPartitionPoint}
+use base.Stored.{Coded}
+use Rattle.rdf_terms.specs.Set as set
+use Rattle.rdf_terms.specs.declared.term.Term.{Term}
+use Rattle.rdf_terms.specs.Statement.{Statement, statement_cmp}
+use Rattle.rdf_terms.specs.contracts.triple.Triple.{the_row}
+
+abbrev pub Graph : Type 0
+Graph = set.Set statement_cmp
+
+-- in order, each once
+abbrev pub triples : Graph → List Statement
+triples g = set.items g
+
+-- whether the triple is in the graph
+abbrev pub has : Graph → Statement → Bool
+has g t = set.has g t
+
+-- the graph and one triple
+abbrev pub with : Graph → Statement → Graph
+with g t = set.with g t
+
+abbrev pub empty : Graph
+empty = set.empty
+
+-- each triple is below all later ones
+abbrev pub is_rising : List Statement → Bool
+is_rising ts = set.is_rising statement_cmp ts
+
+-- the graph of a list that rises
+abbrev pub graph_of : List Statement → Graph
+graph_of ts = set.of_rising statement_cmp ts
+
+-- how a proof tells two graphs apart
+abbrev pub code : Coded Graph
+code = set.code (the_row).coded
+
+-- where a triple that isn't there would stand
+abbrev pub IsPlace : List Statement → Statement → ℕ → Type 0
+IsPlace ts t i = IsPartitionPoint (λ y. statement_cmp y t ≡ Less) (λ y. statement_cmp y t ≡ Greater) ts i
+
+-- the triples with this subject are those at the places from first on and before after
+pub record ArePlacesOf (ts : List Statement) (subject : Term) (first after : ℕ) : Type 0 where
+  pub ordered : first ≤ after
+  pub within : after ≤ length ts
+  pub exact : (i : ℕ) (t : Statement) → slice_get ts i ≡ Some t → (t.subject ≡ subject) ↔ ((first ≤ i) × (i < after))
+
+-- g with the triples of a list
+abbrev pub including : Graph → List Statement → Graph
+including g ts = set.including g ts
+
+-- the graph of the triples of a list
+abbrev pub of_list : List Statement → Graph
+of_list ts = set.of_list ts
+
+-- g without the triples of d
+abbrev pub without : Graph → Graph → Graph
+without g d = set.without g d
+
+-- g without the triples of d, and then with those of a
+abbrev pub edited : Graph → Graph → Graph → Graph
+edited g a d = set.edited g a d
