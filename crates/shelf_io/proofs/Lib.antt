@@ -1,0 +1,5 @@
+pub mod Gains
+pub mod Listed
+pub mod Named
+pub mod Places
+pub mod Pulled

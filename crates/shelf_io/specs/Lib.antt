@@ -1,0 +1,9 @@
+pub mod Calls
+pub mod Causes
+pub mod Content
+pub mod Counted
+pub mod Documents
+pub mod Held
+pub mod Kept
+pub mod Named
+pub mod Sunk
