@@ -1,0 +1,5 @@
+pub mod Explained
+pub mod Faults
+pub mod Lines
+pub mod OneDocument
+pub mod StatusCauses

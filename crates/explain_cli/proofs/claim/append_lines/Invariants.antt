@@ -1,0 +1,7 @@
+use Rattle.std.proofs.Common.{◌≡◌, ◌++◌, take}
+use Rattle.rdf_terms.specs.Graph.{triples}
+use Rattle.explain_cli.specs.ClaimText.{lines_with}
+use Rattle.explain_cli.proofs.claim.append_lines.Given as goal
+
+abbrev pub invariant-loop-triple : goal.invariant-loop-triple
+invariant-loop-triple l = l.bytes ≡ l.fn.bytes ++ lines_with l.word (take l.triple-index (triples l.graph))

@@ -1,0 +1,11 @@
+pub mod Answer
+pub mod Causes
+pub mod ClaimText
+pub mod ExitCode
+pub mod Input
+pub mod Notes
+pub mod Outcome
+pub mod Reading
+pub mod Report
+pub mod Words
+pub mod WordsRefusal

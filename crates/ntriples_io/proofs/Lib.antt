@@ -1,0 +1,13 @@
+pub mod Answering
+pub mod CuttingLemmas
+pub mod Joined
+pub mod LawfulText
+pub mod LineForms
+pub mod Once
+pub mod OnlyTriples
+pub mod RoundTrip
+pub mod ScopedText
+pub mod Spelled
+pub mod Steps
+pub mod TermSpelling
+pub mod Utf8Bytes

@@ -1,0 +1,33 @@
+use Rattle.std.proofs.Common.{Ok, Err}
+use Rattle.std.proofs.lemmas.Result.{err_from_is_err_and}
+use Rattle.ntriples_io.proofs.LawfulText.{text_lawful}
+use Rattle.ntriples_io.proofs.Once.{one_answer}
+use Rattle.ntriples_io.proofs.Steps.{opened, read_text, bad_end, refused_answer}
+use Rattle.ntriples_io.proofs.reader.NtReader.finish.Goals as goal
+
+pub returns-in-Some-clause-only : goal.returns-in-Some-clause-only
+returns-in-Some-clause-only c = λ xs h other m. one_answer xs c.args.self.scope (Err c.in-Some.refusal) other (refused_answer c.args.self c.in-Some.refusal xs c.in-Some.is h) m
+
+pub returns-in_err-read_into-clause-answer : goal.returns-in_err-read_into-clause-answer
+returns-in_err-read_into-clause-answer c = λ xs h.
+    let p = err_from_is_err_and c.from_residual.result c.from_residual.ensures.1 in
+    rw (p.1, p.2)
+    (bad_end c.in_err-read_into.field-0.0 _ xs _ _ _ _ _ _ c.args.self.triples c.read_into.new.triples (opened c.args.self xs c.in_default.is h) c.deref.ensures.value c.in_err-read_into.ensures)
+
+pub returns-in_err-read_into-clause-only : goal.returns-in_err-read_into-clause-only
+returns-in_err-read_into-clause-only c = λ xs h other m.
+    let p = err_from_is_err_and c.from_residual.result c.from_residual.ensures.1 in
+    rw (p.1, p.2)
+    (one_answer xs c.args.self.scope (Err c.in_err-read_into.field-0.0) other
+    (bad_end c.in_err-read_into.field-0.0 _ xs _ _ _ _ _ _ c.args.self.triples c.read_into.new.triples (opened c.args.self xs c.in_default.is h) c.deref.ensures.value c.in_err-read_into.ensures) m)
+
+pub returns-clause-answer : goal.returns-clause-answer
+returns-clause-answer c = λ xs h. read_text _ xs _ _ _ _ _ _ _ _ (opened c.args.self xs c.in_default.is h) c.deref.ensures.value c.in_ok-read_into.ensures c.in_ok-graph.ensures
+
+pub returns-clause-only : goal.returns-clause-only
+returns-clause-only c = λ xs h other m.
+    one_answer xs c.args.self.scope (Ok c.in_ok-graph.graph) other (read_text _ xs _ _ _ _ _ _ _ _ (opened c.args.self xs c.in_default.is h) c.deref.ensures.value c.in_ok-read_into.ensures c.in_ok-graph.ensures) m
+
+pub returns-clause-lawful : goal.returns-clause-lawful
+returns-clause-lawful c = λ xs h.
+    text_lawful xs c.args.self.scope c.in_ok-graph.graph (read_text _ xs _ _ _ _ _ _ _ _ (opened c.args.self xs c.in_default.is h) c.deref.ensures.value c.in_ok-read_into.ensures c.in_ok-graph.ensures)

@@ -1,0 +1,54 @@
+-- The lines of some bytes: the bytes are cut at each CR and each LF (N-Triples, section 7, EOL).
+use Rattle.std.specs.Prelude.{ℕ, ◌+◌, Bool, true, false, cond, not, ◌&&◌, ◌||◌, ◌==◌, List, [], ◌∷◌, ◌++◌}
+
+abbrev pub is_break : ℕ → Bool
+is_break b = (b == 10) || (b == 13)
+
+abbrev pub is_plain : ℕ → Bool
+is_plain b = not (is_break b)
+
+-- a piece of the bytes, and the number of its line
+pub record Line : Type 0 where
+  pub number : ℕ
+  pub piece : List ℕ
+
+-- the pieces that a break ended, and the piece that none ended
+pub record Cut : Type 0 where
+  pub ended : List Line
+  pub last : Line
+
+abbrev pub begins_with_lf : List ℕ → Bool
+begins_with_lf [] = false
+begins_with_lf (b ∷ bs) = b == 10
+
+abbrev pub if_pair : Bool → ℕ → ℕ
+if_pair true n = n
+if_pair false n = n + 1
+
+-- Line n + 1 begins behind a break. Behind a CR before an LF the empty piece between the two is line n still.
+abbrev pub after_break : ℕ → ℕ → List ℕ → ℕ
+after_break n b rest = if_pair ((b == 13) && begins_with_lf rest) n
+
+abbrev pub ends_first : Line → Cut → Cut
+ends_first l c = record { ended = l ∷ c.ended; last = c.last }
+
+abbrev pub begins_first : ℕ → List Line → Line → Cut
+begins_first b [] l = record { ended = []; last = record { number = l.number; piece = b ∷ l.piece } }
+begins_first b (k ∷ ls) l = record { ended = record { number = k.number; piece = b ∷ k.piece } ∷ ls; last = l }
+
+-- the cut of bytes whose first line has this number
+unfoldable pub cut : ℕ → List ℕ → Cut
+cut n [] = record { ended = []; last = record { number = n; piece = [] } }
+cut n (b ∷ bs) = cond (is_break b) (ends_first (record { number = n; piece = [] }) (cut (after_break n b bs) bs)) (begins_first b (cut n bs).ended (cut n bs).last)
+
+-- the lines of a whole text, and those that ended within the bytes so far
+abbrev pub lines_of : List ℕ → List Line
+lines_of bytes = (cut 1 bytes).ended ++ (cut 1 bytes).last ∷ []
+
+abbrev pub ended_of : List ℕ → List Line
+ended_of bytes = (cut 1 bytes).ended
+
+abbrev pub ends_in_cr : List ℕ → Bool
+ends_in_cr [] = false
+ends_in_cr (b ∷ []) = b == 13
+ends_in_cr (b ∷ c ∷ bs) = ends_in_cr (c ∷ bs)

@@ -1,0 +1,36 @@
+-- What a function of the code answers, over a reading function of the characters of a text.
+use Rattle.std.specs.Prelude.{◌≡◌, ℕ, List, ◌++◌, Option, Some, None, Result, Ok, Err}
+use Rattle.std.specs.Str.{chars}
+use Rattle.std.specs.Borrow.{Bor}
+use Rattle.grammar_forms.specs.Reading.{Read}
+use Rattle.rdf_grammar.specs.declared.read_error.ReadError.{ReadError}
+use Rattle.rdf_grammar.specs.declared.read_error.ReadError.TheVariants.{OutOfMemory, NoMatch}
+
+-- the characters end with this rest
+abbrev pub IsRest : List ℕ → List ℕ → Type 0
+IsRest rest cs = (front : List ℕ) × (cs ≡ front ++ rest)
+
+-- a value that stands for what is read, and the rest; `None` where nothing is read
+abbrev pub Gives : {A B : Type 0} → (A → B) → Option (A × Bor (List ℕ)) → Read ℕ B → Type 0
+Gives f None r = r ≡ None
+Gives f (Some x) r = r ≡ Some (f x.0, chars x.1.now)
+
+-- the rest alone
+abbrev pub GivesRest : Option (Bor (List ℕ)) → Read ℕ (Unit {0}) → Type 0
+GivesRest None r = r ≡ None
+GivesRest (Some s) r = r ≡ Some (tt, chars s.now)
+
+-- want of memory says nothing of the text
+abbrev pub Misses : {B : Type 0} → ReadError → Option B → Type 0
+Misses OutOfMemory r = Unit {0}
+Misses NoMatch r = r ≡ None
+
+-- as `Gives`, where memory is taken
+abbrev pub GivesOr : {A B : Type 0} → (A → B) → Result (A × Bor (List ℕ)) ReadError → Read ℕ B → Type 0
+GivesOr f (Ok x) r = r ≡ Some (f x.0, chars x.1.now)
+GivesOr f (Err e) r = Misses e r
+
+-- of a function that reads all of a text
+abbrev pub GivesAll : {A B : Type 0} → (A → B) → Result A ReadError → Option B → Type 0
+GivesAll f (Ok x) r = r ≡ Some (f x)
+GivesAll f (Err e) r = Misses e r
