@@ -1,0 +1,8 @@
+//! Tests that cross crates, and one happy path of each call that takes memory or reaches outside.
+
+mod answers;
+mod devices;
+mod making;
+mod ntriples;
+mod terms;
+mod writing;
