@@ -427,3 +427,19 @@ fn a_line_is_refused_when_it_ends_and_from_then_on(rt: HostRuntime) -> Result<()
     }
     Ok(())
 }
+
+#[test]
+fn an_unfinished_line_is_refused_at_the_end(rt: HostRuntime) -> Result<(), NtRefusal> {
+    let bytes = b"<http://example.org/a> <http://example.org/p> \"y\" .
+<http://example.org/a> <http://example.org/p> \"y\" .
+<http://example.org/a> <http://example.org/p> \"x";
+    let mut reader = NtReader::new(rt.alloc(), Scope::Data);
+    'feeding: for i in 0..bytes.len() {
+        assert!(rt; reader.feed(&bytes[i..i + 1]).is_ok(), "at {i}");
+    }
+    match reader.finish() {
+        Err(NtRefusal::Syntax { line }) => assert_eq!(rt; line, 3),
+        _ => assert!(rt; false, "not refused"),
+    }
+    Ok(())
+}
