@@ -1,59 +1,81 @@
--- What a fault of one document says of the input, whether or not the shelf tells what it holds.
-use Rattle.std.proofs.Common.{◌≡◌, ℕ, ◌≤◌, List, None, Some, Result, Ok, Err, IfErr, ◌∙◌, subst, arith}
-use Rattle.rdf_terms.specs.Graph.{Graph}
-use Rattle.rdf_terms.specs.declared.term.Scope.{Scope}
-use Rattle.rdf_terms.specs.declared.term.Scope.TheVariants.{Data as OfData, Shapes as OfShapes}
+-- What the reading of one document says of the input, whether or not the shelf tells what it holds.
+use Rattle.std.proofs.Common.{◌≡◌, ℕ, ◌≤◌, List, [], ◌∷◌, ◌++◌, None, Some, Result, Ok, Err, IfOk, IfErr, sym, subst, arith}
+use Rattle.std.proofs.lemmas.List.Elements.{All-nil, All-push}
+use Rattle.std.proofs.lemmas.Result.{IfOk-at_ok, IfErr-at_err}
 use Rattle.shelf_io.specs.Held.{Held}
 use Rattle.shelf_io.specs.Documents.{ReadsWhole, IsShort}
-use Rattle.explain_cli.specs.declared.role.Role.TheVariants.{Data, Offered}
+use Rattle.explain_cli.specs.declared.role.Role.{Role}
+use Rattle.explain_cli.specs.declared.role.Reason.{Reason}
+use Rattle.explain_cli.specs.declared.documents.Blame.{Blame}
 use Rattle.explain_cli.specs.declared.documents.Fault.{Fault}
 use Rattle.explain_cli.specs.declared.documents.Fault.TheVariants.{Unread, Refused, OutOfMemory}
-use Rattle.explain_cli.specs.Input.{Names}
-use Rattle.explain_cli.specs.Reading.{ReadsGraph, IsFaultFor, IsParseFault, IsBlamedFor}
+use Rattle.explain_cli.specs.Input.{Named, IsInOrder, IsFault, HoldsInOrder, AreInOrder}
+use Rattle.explain_cli.specs.Reading.{HoldsIn, IfShort, IsParseFault, IsFaultFor, IsBlame, IsBlamedFor}
+use Rattle.explain_cli.proofs.Ready.{held_as}
 
--- the bytes that were read are refused, so what is held is
-pub parse_fault : (scope : Scope) → (held : Held) (name bytes : List ℕ) (before after : ℕ) (fault : Fault) → ReadsWhole held name bytes → IsShort held name → IsParseFault scope name bytes fault → IsFaultFor scope held name before after fault
-parse_fault scope held name bytes before after Unread reads short fault = absurd fault
-parse_fault scope None name bytes before after (Refused reason) reads short fault = tt
-parse_fault scope (Some held) name bytes before after (Refused reason) reads short fault =
-    rw reads (fault (rw reads at short))
-parse_fault scope held name bytes before after OutOfMemory reads short fault = tt
+-- the bytes that were read are so, so what is held is
+parsed : (P : List ℕ → Type 0) (held : Held) (name bytes : List ℕ) → ReadsWhole held name bytes → IsShort held name → IfShort P bytes → HoldsIn P held name
+parsed P None name bytes reads short holds = tt
+parsed P (Some held) name bytes reads short holds = rw reads (holds (rw reads at short))
 
--- the same of whatever the parser answered
-pub parse_result : (scope : Scope) → (held : Held) (name bytes : List ℕ) (before after : ℕ) (r : Result Graph Fault) → ReadsWhole held name bytes → IsShort held name → IfErr r (λ fault. IsParseFault scope name bytes fault) → IfErr r (λ fault. IsFaultFor scope held name before after fault)
-parse_result scope held name bytes before after (Ok g) reads short fault = tt
-parse_result scope held name bytes before after (Err f) reads short fault = parse_fault scope held name bytes before after f reads short fault
+pub parsed_value : {A : Type 0} (P : A → List ℕ → Type 0) (held : Held) (name bytes : List ℕ) (r : Result A Fault) → ReadsWhole held name bytes → IsShort held name → IfOk r (λ v. IfShort (P v) bytes) → IfOk r (λ v. HoldsIn (P v) held name)
+parsed_value P held name bytes (Ok v) reads short holds = parsed (P v) held name bytes reads short holds
+parsed_value P held name bytes (Err fault) reads short holds = tt
+
+parse_fault : (R : Reason → List ℕ → Type 0) (held : Held) (name bytes : List ℕ) (before after : ℕ) (fault : Fault) → ReadsWhole held name bytes → IsShort held name → IsParseFault R bytes fault → IsFaultFor R held name before after fault
+parse_fault R held name bytes before after Unread reads short fault = absurd fault
+parse_fault R held name bytes before after (Refused reason) reads short fault = parsed (R reason) held name bytes reads short fault
+parse_fault R held name bytes before after OutOfMemory reads short fault = tt
+
+pub parsed_fault : {A : Type 0} (R : Reason → List ℕ → Type 0) (held : Held) (name bytes : List ℕ) (before after : ℕ) (r : Result A Fault) → ReadsWhole held name bytes → IsShort held name → IfErr r (λ fault. IsParseFault R bytes fault) → IfErr r (λ fault. IsFaultFor R held name before after fault)
+parsed_fault R held name bytes before after (Ok v) reads short fault = tt
+parsed_fault R held name bytes before after (Err f) reads short fault = parse_fault R held name bytes before after f reads short fault
+
+-- a refusal for one reason is also one for what follows from it
+held_in_as : (P Q : List ℕ → Type 0) → ((bytes : List ℕ) → P bytes → Q bytes) → (held : Held) (name : List ℕ) → HoldsIn P held name → HoldsIn Q held name
+held_in_as P Q weaker None name holds = tt
+held_in_as P Q weaker (Some held) name holds = held_as P Q weaker (held name) holds
+
+pub fault_as : (R S : Reason → List ℕ → Type 0) → ((reason : Reason) (bytes : List ℕ) → R reason bytes → S reason bytes) → (held : Held) (name : List ℕ) (before after : ℕ) (fault : Fault) → IsFaultFor R held name before after fault → IsFaultFor S held name before after fault
+fault_as R S weaker held name before after Unread fault = fault
+fault_as R S weaker held name before after (Refused reason) fault = held_in_as (R reason) (S reason) (weaker reason) held name fault
+fault_as R S weaker held name before after OutOfMemory fault = tt
 
 -- a count that rose from a later moment on rose from an earlier one on
-earlier_fault : (scope : Scope) → (held : Held) (name : List ℕ) (before between after : ℕ) (fault : Fault) → before ≤ between → IsFaultFor scope held name between after fault → IsFaultFor scope held name before after fault
-earlier_fault scope held name before between after Unread le fault = omega arith
-earlier_fault scope held name before between after (Refused reason) le fault = fault
-earlier_fault scope held name before between after OutOfMemory le fault = tt
+earlier_fault : (R : Reason → List ℕ → Type 0) (held : Held) (name : List ℕ) (before between after : ℕ) (fault : Fault) → before ≤ between → IsFaultFor R held name between after fault → IsFaultFor R held name before after fault
+earlier_fault R held name before between after Unread le fault = omega arith
+earlier_fault R held name before between after (Refused reason) le fault = fault
+earlier_fault R held name before between after OutOfMemory le fault = tt
 
--- the second document is the first one with a fault
-data_first : (held : Held) (before after : List ℕ → ℕ) (names : Names) (g : Graph) (fault : Fault) → ReadsGraph OfShapes held names.shapes g → IsFaultFor OfData held names.present (before names.present) (after names.present) fault → IsBlamedFor (record { held = held; before = before; after = after }) names Data fault
-data_first None before after names g Unread first fault = (fault, tt)
-data_first (Some held) before after names g Unread first fault = (fault, (g, first))
-data_first None before after names g (Refused reason) first fault = tt
-data_first (Some held) before after names g (Refused reason) first fault = record { earlier = (g, first); fault = fault }
-data_first held before after names g OutOfMemory first fault = tt
+pub none_read : (held : Held) → AreInOrder held []
+none_read None = tt
+none_read (Some held) = All-nil (HoldsInOrder held)
 
--- the third document is the first one with a fault
-offered_first : (held : Held) (before after : List ℕ → ℕ) (names : Names) (g h : Graph) (fault : Fault) → ReadsGraph OfShapes held names.shapes g → ReadsGraph OfData held names.present h → IsFaultFor OfData held names.offered (before names.offered) (after names.offered) fault → IsBlamedFor (record { held = held; before = before; after = after }) names Offered fault
-offered_first None before after names g h Unread first second fault = (fault, tt)
-offered_first (Some held) before after names g h Unread first second fault = (fault, ((g, first), (h, second)))
-offered_first None before after names g h (Refused reason) first second fault = tt
-offered_first (Some held) before after names g h (Refused reason) first second fault =
-    record { earlier = ((g, first), (h, second)); fault = fault }
-offered_first held before after names g h OutOfMemory first second fault = tt
+held_more : (held : Held) (before : List Named) (role : Role) (name : List ℕ) → AreInOrder held before → HoldsIn (IsInOrder role name) held name → AreInOrder held (before ++ record { role = role; name = name } ∷ [])
+held_more None before role name earlier holds = tt
+held_more (Some held) before role name earlier holds = All-push (HoldsInOrder held) before (record { role = role; name = name }) earlier holds
 
--- the same, where the shelf was pulled from between the documents
-pub data_blamed : (held between_held : Held) (before between after : List ℕ → ℕ) (names : Names) (g : Graph) (fault : Fault) → between_held ≡ held → ((any : List ℕ) → before any ≤ between any) → ReadsGraph OfShapes held names.shapes g → IsFaultFor OfData between_held names.present (between names.present) (after names.present) fault → IsBlamedFor (record { held = held; before = before; after = after }) names Data fault
-data_blamed held between_held before between after names g fault kept later first second =
-    data_first held before after names g fault first (earlier_fault OfData held names.present (before names.present) (between names.present) (after names.present) fault (later names.present) (subst (λ h. IsFaultFor OfData h names.present (between names.present) (after names.present) fault) kept second))
+-- one more document was read
+pub read_more : {A : Type 0} (P : A → List ℕ → Type 0) (before : List Named) (role : Role) (name : List ℕ) (held between_held : Held) (read : Result A Fault) (value : A) → ((v : A) (bytes : List ℕ) → P v bytes → IsInOrder role name bytes) → AreInOrder held before → between_held ≡ held
+    → IfOk read (λ v. HoldsIn (P v) between_held name) → read ≡ Ok value → AreInOrder held (before ++ record { role = role; name = name } ∷ [])
+read_more P before role name held between_held read value in_order earlier kept holds is =
+    let here = IfOk-at_ok (λ v. HoldsIn (P v) between_held name) is holds in
+    held_more held before role name earlier (held_in_as (P value) (IsInOrder role name) (in_order value) held name (subst (λ (h : Held). HoldsIn (P value) h name) kept here))
 
-pub offered_blamed : (held between_held late_held : Held) (before between late after : List ℕ → ℕ) (names : Names) (g h : Graph) (fault : Fault) → between_held ≡ held → late_held ≡ between_held → ((any : List ℕ) → before any ≤ between any) → ((any : List ℕ) → between any ≤ late any) → ReadsGraph OfShapes held names.shapes g → ReadsGraph OfData between_held names.present h → IsFaultFor OfData late_held names.offered (late names.offered) (after names.offered) fault → IsBlamedFor (record { held = held; before = before; after = after }) names Offered fault
-offered_blamed held between_held late_held before between late after names g h fault kept kept_late later later_late first second third =
-    let name = names.offered in
-    let le : before name ≤ late name = let a = later name in let b = later_late name in omega arith in
-    offered_first held before after names g h fault first (subst (λ k. ReadsGraph OfData k names.present h) kept second) (earlier_fault OfData held name (before name) (late name) (after name) fault le (subst (λ k. IsFaultFor OfData k name (late name) (after name) fault) (kept_late ∙ kept) third))
+first_fault : (documents before after : List Named) (role : Role) (name : List ℕ) (held : Held) (from to : List ℕ → ℕ) (fault : Fault) → documents ≡ before ++ record { role = role; name = name } ∷ after → AreInOrder held before → IsFaultFor (IsFault role name) held name (from name) (to name) fault → IsBlamedFor (record { held = held; before = from; after = to }) documents role fault
+first_fault documents before after role name held from to Unread parts earlier fault =
+    record { name = name; next = record { before = before; after = after; parts = parts; earlier = earlier }; rose = fault }
+first_fault documents before after role name None from to (Refused reason) parts earlier fault = tt
+first_fault documents before after role name (Some held) from to (Refused reason) parts earlier fault =
+    record { name = name; next = record { before = before; after = after; parts = parts; earlier = earlier }; fault = fault }
+first_fault documents before after role name held from to OutOfMemory parts earlier fault = tt
+
+-- The documents before this one were read, so it is the first one with a fault. The shelf was pulled from for them.
+pub blamed : {A : Type 0} (documents before after : List Named) (role : Role) (name : List ℕ) (held between_held : Held) (from between to : List ℕ → ℕ) (read : Result A Fault) (blame : Blame)
+    → documents ≡ before ++ record { role = role; name = name } ∷ after → AreInOrder held before → between_held ≡ held → from name ≤ between name
+    → IfErr read (λ fault. IsFaultFor (IsFault role name) between_held name (between name) (to name) fault) → IsBlame role read blame → IsBlamedFor (record { held = held; before = from; after = to }) documents blame.role blame.fault
+blamed documents before after role name held between_held from between to read blame parts earlier kept later fault own =
+    let Cause : Held → Type 0 = λ h. IsFaultFor (IsFault role name) h name (between name) (to name) blame.fault in
+    let cause = subst Cause kept (IfErr-at_err (λ f. IsFaultFor (IsFault role name) between_held name (between name) (to name) f) own.is fault) in
+    subst (λ (r : Role). IsBlamedFor (record { held = held; before = from; after = to }) documents r blame.fault) (sym own.role_is)
+    (first_fault documents before after role name held from to blame.fault parts earlier (earlier_fault (IsFault role name) held name (from name) (between name) (to name) blame.fault later cause))

@@ -1,216 +1,294 @@
 -- When each status comes, by how the call ends.
-use Rattle.std.proofs.Common.{◌≡◌, ◌≢◌, ℕ, ◌<◌, ◌≤◌, ◌⊎◌, inl, inr, List, Option, None, Some, Result, Ok, Err, IsErr, refl, sym, ap, ◌∙◌, subst, arith, true≢false}
-use Rattle.rdf_terms.specs.Graph.{Graph, without}
-use Rattle.rdf_terms.specs.declared.term.Scope.{Scope}
-use Rattle.rdf_terms.specs.declared.term.Scope.TheVariants.{Data as OfData, Shapes as OfShapes}
+use Rattle.std.proofs.Common.{◌≡◌, ℕ, ◌<◌, ◌≤◌, ◌⊎◌, inl, inr, List, None, Some, Result, Ok, Err, IsErr, refl, sym, ap, ◌∙◌, subst, arith}
+use Rattle.std.specs.List.{All}
+use Rattle.rdf_terms.specs.Graph.{without}
 use Rattle.thin_repair.specs.Answer.{candidate_count}
 use Rattle.thin_repair.specs.Conformance.{Conforms}
 use Rattle.thin_repair.specs.Repair.{NoneExplains}
-use Rattle.thin_repair.specs.ThinShapes.{IsThinShapes}
+use Rattle.shelf_io.specs.Causes.{Rose}
 use Rattle.shelf_io.specs.Held.{Held}
-use Rattle.explain_cli.specs.declared.role.Role.{Role}
-use Rattle.explain_cli.specs.declared.role.Role.TheVariants.{Shapes, Data, Offered}
-use Rattle.explain_cli.specs.declared.role.Reason.{Reason}
-use Rattle.explain_cli.specs.declared.role.Reason.TheVariants.{TooLong, NotReadYet, Line}
 use Rattle.explain_cli.specs.declared.status.Status.{Status}
 use Rattle.explain_cli.specs.declared.status.Status.TheVariants.{Done, No, Usage, Input, Read, Write, Memory, TooMany, Spent}
 use Rattle.explain_cli.specs.declared.words.Command.{Command}
-use Rattle.explain_cli.specs.declared.words.Command.TheVariants.{Explain}
-use Rattle.explain_cli.specs.Answer.{Texts, Answers, ExplainAnswers, CommandAnswersIn, IsOutcome}
-use Rattle.explain_cli.specs.Causes.{IsCutShort, IsAnswered, IsUndisturbed, Refuses, IsTooMuch, HasNoPair, ExplainCauses, Causes}
-use Rattle.explain_cli.specs.Input.{Contents, Names, Graphs, IsInput, IsFirstRefusal, HoldsDocument, HoldsFault}
-use Rattle.explain_cli.specs.Outcome.{ShelfTold, SinkTold, Means, MeetsReadFault, Ends, Outcome}
+use Rattle.explain_cli.specs.declared.words.Command.TheVariants.{Explain, Apply}
+use Rattle.explain_cli.specs.Answer.{Texts, ClaimsPair, Answers, ExplainAnswers, ApplyAnswers, CommandAnswers, MayExplain, MayApply, MayAnswer, CommandAnswersIn}
+use Rattle.explain_cli.specs.Causes.{IsCutShort, IsExplained, IsApplied, IsAnswered, IsUndisturbed, Refuses, IsTooMuch, HasNoPair, CommandCauses, InputCauses, Causes}
+use Rattle.explain_cli.specs.Input.{Contents, Named, documents_of, Names, Graphs, ApplyNames, IsInput}
+use Rattle.explain_cli.specs.Outcome.{ShelfTold, SinkTold, MeetsReadFault, Ends, Breaks, Outcome}
 use Rattle.explain_cli.specs.Words.{words_of}
-use Rattle.ntriples_io.proofs.Once.{never_both}
-use Rattle.explain_cli.proofs.OneDocument.{one_document}
+use Rattle.explain_cli.proofs.OneDocument.{All-middle}
+use Rattle.explain_cli.proofs.Ready.{one_input, IsEdited, IsReady, ready_unrefused}
 
--- the bytes of a document are not refused
-no_fault : (scope : Scope) (held : Option (List ℕ)) (name : List ℕ) (g : Graph) (reason : Reason) → HoldsDocument scope held name g → HoldsFault scope held name reason → ⊥
-no_fault scope None name g reason document fault = document
-no_fault scope (Some bytes) name g TooLong document fault = let short = document.short in omega arith
-no_fault scope (Some bytes) name g NotReadYet document fault = document.format fault.1
-no_fault scope (Some bytes) name g (Line number) document fault = never_both bytes scope g number document.text fault.bad
+-- ---- what an answer shows of the input
 
--- an input that is in order is not refused
-not_refused : (names : Names) (held : Contents) (g : Graphs) (role : Role) (reason : Reason) → IsInput names held g → IsFirstRefusal names held role reason → ⊥
-not_refused names held g Shapes reason input (inl refusal) = no_fault OfShapes _ _ g.shapes reason input.documents.shapes refusal.fault
-not_refused names held g Data reason input (inl refusal) = no_fault OfData _ _ g.present reason input.documents.present refusal.fault
-not_refused names held g Offered reason input (inl refusal) = no_fault OfData _ _ g.offered reason input.documents.offered refusal.fault
-not_refused names held g role reason input (inr refusal) =
-    let same = one_document OfShapes (held names.shapes) names.shapes g.shapes refusal.graphs.shapes input.documents.shapes refusal.documents.shapes in
-    refusal.refused (subst IsThinShapes same input.profile)
+abbrev ExplainShows : Command → Names → Contents → Status → Type 0
+ExplainShows command names held status =
+    ((status ≡ Input) × Refuses command held) ⊎ ((status ≡ TooMany) × ((g : Graphs) × IsTooMuch names held g)) ⊎ ((status ≡ No) × ((g : Graphs) × HasNoPair names held g)) ⊎ ((status ≡ Done) × ((out : List ℕ) × ClaimsPair names held out))
 
--- the input is that of one list of graphs
-one_input : (names : Names) (held : Contents) (g h : Graphs) → IsInput names held g → IsInput names held h → g ≡ h
-one_input names held g h a b =
-    let s = one_document OfShapes _ names.shapes g.shapes h.shapes a.documents.shapes b.documents.shapes in
-    let p = one_document OfData _ names.present g.present h.present a.documents.present b.documents.present in
-    let o = one_document OfData _ names.offered g.offered h.offered a.documents.offered b.documents.offered in
-    λ i. record { shapes = s i; present = p i; offered = o i }
+explain_shows : (command : Command) (names : Names) (held : Contents) (status : Status) (out notes : List ℕ) → ExplainAnswers command names held status out notes → ExplainShows command names held status
+explain_shows command names held Done out notes answer = inr (inr (inr (refl, (out, answer.0))))
+explain_shows command names held No out notes answer = let claim = answer.0 in inr (inr (inl (refl, (claim.graphs, (claim.input, claim.few, claim.none)))))
+explain_shows command names held Input out notes answer = let refusal = answer.0 in inl (refl, (refusal.role, refusal.reason, refusal.first))
+explain_shows command names held TooMany out notes answer = let many = answer.0 in inr (inl (refl, (many.graphs, (many.input, many.many))))
+explain_shows command names held Usage out notes answer = absurd answer
+explain_shows command names held Read out notes answer = absurd answer
+explain_shows command names held Write out notes answer = absurd answer
+explain_shows command names held Memory out notes answer = absurd answer
+explain_shows command names held Spent out notes answer = absurd answer
 
--- how `explain` ended, where the bytes are told
-ExplainEnds : Names → Contents → Status → Type 0
-ExplainEnds names held status = ((out : List ℕ) × (notes : List ℕ) × ExplainAnswers names held status out notes) ⊎ IsCutShort status
+abbrev ApplyShows : Command → ApplyNames → Contents → Status → Type 0
+ApplyShows command names held status = ((status ≡ Input) × Refuses command held) ⊎ ((status ≡ Done) × IsEdited names held)
 
-means_answer : (s p o : List ℕ) (held : Contents) (shelf : ShelfTold) (words : List (List ℕ)) (t : Texts) → words_of words ≡ Ok (Explain s p o) → shelf.held ≡ Some held → t.status ≢ Read → Means words shelf t → ExplainAnswers (record { shapes = s; present = p; offered = o }) held t.status t.out t.notes
-means_answer s p o held shelf words t is told other (inl answer) =
-    subst (λ h. CommandAnswersIn (Explain s p o) h t) told (subst (λ r. Answers r shelf.held t) is answer)
-means_answer s p o held shelf words t is told other (inr fault) =
-    absurd (other (ap (λ u. u.status) (subst (λ r. MeetsReadFault r shelf t) is fault).texts))
+apply_shows : (command : Command) (names : ApplyNames) (held : Contents) (status : Status) (out notes : List ℕ) → ApplyAnswers command names held status out notes → ApplyShows command names held status
+apply_shows command names held Done out notes answer =
+    let written = answer.0 in
+    inr (refl, record { present = written.present; claim = written.claim; documents = written.documents; made = written.made; edits = written.edits })
+apply_shows command names held Input out notes answer = let refusal = answer.0 in inl (refl, (refusal.role, refusal.reason, refusal.first))
+apply_shows command names held No out notes answer = absurd answer
+apply_shows command names held TooMany out notes answer = absurd answer
+apply_shows command names held Usage out notes answer = absurd answer
+apply_shows command names held Read out notes answer = absurd answer
+apply_shows command names held Write out notes answer = absurd answer
+apply_shows command names held Memory out notes answer = absurd answer
+apply_shows command names held Spent out notes answer = absurd answer
 
-ends_explain : (s p o : List ℕ) (held : Contents) (shelf : ShelfTold) (words : List (List ℕ)) (out notes : SinkTold) (status : Status) → words_of words ≡ Ok (Explain s p o) → shelf.held ≡ Some held → status ≢ Read → Ends words shelf out notes status → ExplainEnds (record { shapes = s; present = p; offered = o }) held status
-unfolding ExplainEnds
-ends_explain s p o held shelf words out notes status is told other ends =
-    inl (ends.texts.out, ends.texts.notes, subst (λ k. ExplainAnswers (record { shapes = s; present = p; offered = o }) held k ends.texts.out ends.texts.notes) ends.status_is (means_answer s p o held shelf words ends.texts is told (λ e. other (sym ends.status_is ∙ e)) ends.meant))
+-- an answer refuses the input, or shows that it is in order
+Shows : Command → Contents → Status → Type 0
+Shows command held status = ((status ≡ Input) × Refuses command held) ⊎ (MayAnswer command status × IsAnswered command status × IsReady command held)
 
-outcome_explain : (s p o : List ℕ) (held : Contents) (shelf : ShelfTold) (words : List (List ℕ)) (out notes : SinkTold) (status : Status) → words_of words ≡ Ok (Explain s p o) → shelf.held ≡ Some held → Outcome words shelf out notes status → ExplainEnds (record { shapes = s; present = p; offered = o }) held status
-unfolding ExplainEnds
-outcome_explain s p o held shelf words out notes Done is told ends = ends_explain s p o held shelf words out notes Done is told (λ e. cc) ends
-outcome_explain s p o held shelf words out notes No is told ends = ends_explain s p o held shelf words out notes No is told (λ e. cc) ends
-outcome_explain s p o held shelf words out notes Usage is told ends = ends_explain s p o held shelf words out notes Usage is told (λ e. cc) ends
-outcome_explain s p o held shelf words out notes Input is told ends = ends_explain s p o held shelf words out notes Input is told (λ e. cc) ends
-outcome_explain s p o held shelf words out notes Read is told ends = inr tt
-outcome_explain s p o held shelf words out notes Write is told ends = inr tt
-outcome_explain s p o held shelf words out notes Memory is told ends = inr tt
-outcome_explain s p o held shelf words out notes TooMany is told ends = ends_explain s p o held shelf words out notes TooMany is told (λ e. cc) ends
-outcome_explain s p o held shelf words out notes Spent is told ends = absurd ends
+shows : (command : Command) (held : Contents) (t : Texts) → CommandAnswers command held t → Shows command held t.status
+unfolding Shows
+shows (Explain s p o) held t answer =
+    elim (explain_shows (Explain s p o) (record { shapes = s; present = p; offered = o }) held t.status t.out t.notes answer) [
+      | inl refused ↦ inl refused
+      | inr shown ↦ elim shown [
+        | inl many ↦ inr (subst MayExplain (sym many.0) tt, subst IsExplained (sym many.0) tt, (many.1.0, many.1.1.0))
+        | inr shown ↦ elim shown [
+          | inl none ↦ inr (subst MayExplain (sym none.0) tt, subst IsExplained (sym none.0) tt, (none.1.0, none.1.1.0))
+          | inr pair ↦ let claim = pair.1.1 in inr (subst MayExplain (sym pair.0) tt, subst IsExplained (sym pair.0) tt, (claim.graphs, claim.input))
+        ]
+      ]
+    ]
+shows (Apply p d) held t answer =
+    elim (apply_shows (Apply p d) (record { present = p; document = d }) held t.status t.out t.notes answer) [
+      | inl refused ↦ inl refused
+      | inr done ↦ inr (subst MayApply (sym done.0) tt, subst IsApplied (sym done.0) tt, done.1)
+    ]
 
--- each status against what the documents are
-refused_at : (names : Names) (held : Contents) → ExplainEnds names held Input → Refuses names held
-unfolding ExplainEnds
-refused_at names held (inl answer) = (answer.2.0.role, answer.2.0.reason, answer.2.0.first)
-refused_at names held (inr cut) = absurd cut
+-- any command may refuse its input
+may_refuse : (command : Command) (status : Status) → status ≡ Input → MayAnswer command status
+may_refuse (Explain s p o) status e = subst MayExplain (sym e) tt
+may_refuse (Apply p d) status e = subst MayApply (sym e) tt
 
-many_at : (names : Names) (held : Contents) → ExplainEnds names held TooMany → (g : Graphs) × IsTooMuch names held g
-unfolding ExplainEnds
-many_at names held (inl answer) = (answer.2.0.graphs, (answer.2.0.input, answer.2.0.many))
-many_at names held (inr cut) = absurd cut
+may_answer : (command : Command) (held : Held) (t : Texts) → CommandAnswersIn command held t → MayAnswer command t.status
+unfolding Shows
+may_answer command None t answer = answer
+may_answer command (Some held) t answer =
+    elim (shows command held t answer) [ inl refused ↦ may_refuse command t.status refused.0 | inr ready ↦ ready.0 ]
 
-none_at : (names : Names) (held : Contents) → ExplainEnds names held No → (g : Graphs) × HasNoPair names held g
-unfolding ExplainEnds
-none_at names held (inl answer) = (answer.2.0.graphs, (answer.2.0.input, answer.2.0.few, answer.2.0.none))
-none_at names held (inr cut) = absurd cut
+-- ---- how a call ends
 
-input_always : (names : Names) (held : Contents) (status : Status) → ExplainEnds names held status → Refuses names held → (status ≡ Input) ⊎ IsCutShort status
-unfolding ExplainEnds
-input_always names held status (inr cut) refuses = inr cut
-input_always names held Done (inl answer) refuses = absurd (not_refused names held answer.2.0.graphs refuses.0 refuses.1 answer.2.0.input refuses.2)
-input_always names held No (inl answer) refuses = absurd (not_refused names held answer.2.0.graphs refuses.0 refuses.1 answer.2.0.input refuses.2)
-input_always names held Usage (inl answer) refuses = absurd answer.2
-input_always names held Input (inl answer) refuses = inl refl
-input_always names held Read (inl answer) refuses = absurd answer.2
-input_always names held Write (inl answer) refuses = absurd answer.2
-input_always names held Memory (inl answer) refuses = absurd answer.2
-input_always names held TooMany (inl answer) refuses = absurd (not_refused names held answer.2.0.graphs refuses.0 refuses.1 answer.2.0.input refuses.2)
-input_always names held Spent (inl answer) refuses = absurd answer.2
+Ending : List (List ℕ) → ShelfTold → SinkTold → SinkTold → Status → Type 0
+Ending words shelf out notes status = Ends words shelf out notes status ⊎ ((status ≡ Write) × Breaks words shelf out notes) ⊎ (status ≡ Memory)
 
--- graphs of one input that are few are not many
-not_both : (names : Names) (held : Contents) (g h : Graphs) → IsInput names held g → IsInput names held h → candidate_count g.present g.offered ≤ 12 → 12 < candidate_count h.present h.offered → ⊥
-not_both names held g h a b few many =
-    let count = ap (λ (k : Graphs). candidate_count k.present k.offered) (one_input names held g h a b) in
-    omega (arith, count)
+ending : (words : List (List ℕ)) (shelf : ShelfTold) (out notes : SinkTold) (status : Status) → Outcome words shelf out notes status → Ending words shelf out notes status
+unfolding Ending
+ending words shelf out notes Done ends = inl ends
+ending words shelf out notes No ends = inl ends
+ending words shelf out notes Usage ends = inl ends
+ending words shelf out notes Input ends = inl ends
+ending words shelf out notes Read ends = inl ends
+ending words shelf out notes Write breaks = inr (inl (refl, breaks))
+ending words shelf out notes Memory same = inr (inr refl)
+ending words shelf out notes TooMany ends = inl ends
+ending words shelf out notes Spent ends = absurd ends
 
-many_always : (names : Names) (held : Contents) (status : Status) → ExplainEnds names held status → (g : Graphs) → IsTooMuch names held g → (status ≡ TooMany) ⊎ IsCutShort status
-unfolding ExplainEnds
-many_always names held status (inr cut) g much = inr cut
-many_always names held Done (inl answer) g much = absurd (not_both names held answer.2.0.graphs g answer.2.0.input much.0 answer.2.0.few much.1)
-many_always names held No (inl answer) g much = absurd (not_both names held answer.2.0.graphs g answer.2.0.input much.0 answer.2.0.few much.1)
-many_always names held Usage (inl answer) g much = absurd answer.2
-many_always names held Input (inl answer) g much = absurd (not_refused names held g answer.2.0.role answer.2.0.reason much.0 answer.2.0.first)
-many_always names held Read (inl answer) g much = absurd answer.2
-many_always names held Write (inl answer) g much = absurd answer.2
-many_always names held Memory (inl answer) g much = absurd answer.2
-many_always names held TooMany (inl answer) g much = inl refl
-many_always names held Spent (inl answer) g much = absurd answer.2
+-- a command was answered, over what the shelf tells, or cut short
+Ended : Command → Held → Status → Type 0
+Ended command held status = ((t : Texts) × (t.status ≡ status) × CommandAnswersIn command held t) ⊎ IsCutShort status
 
-none_always : (names : Names) (held : Contents) (status : Status) → ExplainEnds names held status → (g : Graphs) → HasNoPair names held g → (status ≡ No) ⊎ IsCutShort status
-unfolding ExplainEnds
-none_always names held status (inr cut) g none = inr cut
-none_always names held Done (inl answer) g none =
-    let claim = answer.2.0 in
-    let same = one_input names held g claim.graphs none.0 claim.input in
-    let unexplained = subst (λ (k : Graphs). NoneExplains (Conforms k.shapes) k.present (without k.offered k.present)) same none.2 in
-    absurd (unexplained claim.adds claim.deletes claim.minimal.explains)
-none_always names held No (inl answer) g none = inl refl
-none_always names held Usage (inl answer) g none = absurd answer.2
-none_always names held Input (inl answer) g none = absurd (not_refused names held g answer.2.0.role answer.2.0.reason none.0 answer.2.0.first)
-none_always names held Read (inl answer) g none = absurd answer.2
-none_always names held Write (inl answer) g none = absurd answer.2
-none_always names held Memory (inl answer) g none = absurd answer.2
-none_always names held TooMany (inl answer) g none = absurd (not_both names held g answer.2.0.graphs none.0 answer.2.0.input none.1 answer.2.0.many)
-none_always names held Spent (inl answer) g none = absurd answer.2
+cut_by : (status ended : Status) → status ≡ ended → IsCutShort ended → IsCutShort status
+cut_by status ended e cut = subst IsCutShort (sym e) cut
 
-explain_causes : (names : Names) (held : Contents) (status : Status) → ExplainEnds names held status → ExplainCauses names held status
-explain_causes names held status ends =
-    record {
-      input_only = λ e. refused_at names held (subst (ExplainEnds names held) e ends);
-      input_always = input_always names held status ends;
-      many_only = λ e. many_at names held (subst (ExplainEnds names held) e ends);
-      many_always = many_always names held status ends;
-      none_only = λ e. none_at names held (subst (ExplainEnds names held) e ends);
-      none_always = none_always names held status ends;
-    }
+ended : (command : Command) (held : Held) (words : List (List ℕ)) (shelf : ShelfTold) (out notes : SinkTold) (status : Status) → words_of words ≡ Ok command → shelf.held ≡ held → Outcome words shelf out notes status → Ended command held status
+unfolding Ending Ended
+ended command held words shelf out notes status is told outcome =
+    elim (ending words shelf out notes status outcome) [
+      | inl ends ↦ elim ends.meant [
+        | inl answer ↦ inl (ends.texts, ends.status_is, subst (λ (h : Held). CommandAnswersIn command h ends.texts) told (subst (λ (r : Result Command ℕ). Answers r shelf.held ends.texts) is answer))
+        | inr fault ↦
+            let read = subst (λ (r : Result Command ℕ). MeetsReadFault r shelf ends.texts) is fault in
+            inr (cut_by status Read (sym ends.status_is ∙ ap (λ (u : Texts). u.status) read.texts) tt)
+      ]
+      | inr cut ↦ elim cut [ inl write ↦ inr (cut_by status Write write.0 tt) | inr memory ↦ inr (cut_by status Memory memory tt) ]
+    ]
 
--- the words against each status
-command_outcome : (command : Command) (held : Held) (shelf : ShelfTold) (t : Texts) → Answers (Ok command) held t ⊎ MeetsReadFault (Ok command) shelf t → (t.status ≢ Usage) × (t.status ≢ Spent)
-command_outcome (Explain s p o) None shelf t (inl answer) = ((λ e. subst IsOutcome e answer), (λ e. subst IsOutcome e answer))
-command_outcome (Explain s p o) (Some held) shelf t (inl answer) =
-    let names : Names = record { shapes = s; present = p; offered = o } in
-    ((λ e. subst (λ k. ExplainAnswers names held k t.out t.notes) e answer), (λ e. subst (λ k. ExplainAnswers names held k t.out t.notes) e answer))
-command_outcome command held shelf t (inr fault) =
-    let is = ap (λ (u : Texts). u.status) fault.texts in
-    ((λ e. cc), (λ e. cc))
+-- ---- the words
 
-means_status : (r : Result Command ℕ) (held : Held) (shelf : ShelfTold) (t : Texts) → Answers r held t ⊎ MeetsReadFault r shelf t → (t.status ≡ Usage → IsErr r) × (IsErr r → t.status ≡ Usage) × (t.status ≢ Spent)
-means_status (Err k) held shelf t (inl answer) =
-    let is = ap (λ (u : Texts). u.status) answer in
-    ((λ _. refl), (λ _. is), (λ e. cc))
-means_status (Err k) held shelf t (inr fault) = absurd fault
-means_status (Ok command) held shelf t meant =
-    let other = command_outcome command held shelf t meant in
-    ((λ e. absurd (other.0 e)), (λ h. cc), other.1)
+never_usage : (command : Command) → MayAnswer command Usage → ⊥
+never_usage (Explain s p o) may = may
+never_usage (Apply p d) may = may
 
-ends_status : (words : List (List ℕ)) (shelf : ShelfTold) (out notes : SinkTold) (status : Status) → Ends words shelf out notes status → (status ≡ Usage → IsErr (words_of words)) × (IsErr (words_of words) → status ≡ Usage)
-ends_status words shelf out notes status ends =
-    let m = means_status (words_of words) shelf.held shelf ends.texts ends.meant in
-    ((λ e. m.0 (ends.status_is ∙ e)), (λ h. sym ends.status_is ∙ m.1 h))
+usage_only : (words : List (List ℕ)) (shelf : ShelfTold) (out notes : SinkTold) → Outcome words shelf out notes Usage → IsErr (words_of words)
+unfolding Ended
+usage_only words shelf out notes outcome = by (words_of words) refl
+  where
+    by : (r : Result Command ℕ) → words_of words ≡ r → IsErr r
+    by (Err position) is = refl
+    by (Ok command) is =
+        elim (ended command shelf.held words shelf out notes Usage is refl outcome) [
+          | inl answered ↦ absurd (never_usage command (subst (MayAnswer command) answered.1 (may_answer command shelf.held answered.0 answered.2)))
+          | inr cut ↦ absurd cut
+        ]
+
+usage_meant : (r : Result Command ℕ) (held : Held) (shelf : ShelfTold) (t : Texts) → IsErr r → Answers r held t ⊎ MeetsReadFault r shelf t → t.status ≡ Usage
+usage_meant (Err position) held shelf t wrong (inl answer) = ap (λ (u : Texts). u.status) answer
+usage_meant (Err position) held shelf t wrong (inr fault) = absurd fault
+usage_meant (Ok command) held shelf t wrong meant = absurd cc
 
 usage_always : (words : List (List ℕ)) (shelf : ShelfTold) (out notes : SinkTold) (status : Status) → Outcome words shelf out notes status → IsErr (words_of words) → (status ≡ Usage) ⊎ (status ≡ Write) ⊎ (status ≡ Memory)
-usage_always words shelf out notes Done ends h = inl ((ends_status words shelf out notes Done ends).1 h)
-usage_always words shelf out notes No ends h = inl ((ends_status words shelf out notes No ends).1 h)
-usage_always words shelf out notes Usage ends h = inl refl
-usage_always words shelf out notes Input ends h = inl ((ends_status words shelf out notes Input ends).1 h)
-usage_always words shelf out notes Read ends h = inl ((ends_status words shelf out notes Read ends).1 h)
-usage_always words shelf out notes Write ends h = inr (inl refl)
-usage_always words shelf out notes Memory ends h = inr (inr refl)
-usage_always words shelf out notes TooMany ends h = inl ((ends_status words shelf out notes TooMany ends).1 h)
-usage_always words shelf out notes Spent ends h = absurd ends
-
--- an input that is not refused is answered, unless the outside fails
-complete : (s p o : List ℕ) (held : Contents) (words : List (List ℕ)) (shelf : ShelfTold) (out notes : SinkTold) (status : Status) → words_of words ≡ Ok (Explain s p o) → shelf.held ≡ Some held → ¬ (Refuses (record { shapes = s; present = p; offered = o }) held) → IsUndisturbed (record { shapes = s; present = p; offered = o }) shelf out notes → Outcome words shelf out notes status → IsAnswered status
-complete s p o held words shelf out notes Done is told kept calm ends = tt
-complete s p o held words shelf out notes No is told kept calm ends = tt
-complete s p o held words shelf out notes Usage is told kept calm ends =
-    let wrong = subst (λ r. IsErr r) is ((ends_status words shelf out notes Usage ends).0 refl) in absurd (true≢false (sym wrong))
-complete s p o held words shelf out notes Input is told kept calm ends =
-    kept (refused_at _ held (outcome_explain s p o held shelf words out notes Input is told ends))
-complete s p o held words shelf out notes Read is told kept calm ends =
-    elim ends.meant [
-      | inl answer ↦ subst (λ k. ExplainAnswers (record { shapes = s; present = p; offered = o }) held k ends.texts.out ends.texts.notes) ends.status_is (subst (λ h. CommandAnswersIn (Explain s p o) h ends.texts) told (subst (λ r. Answers r shelf.held ends.texts) is answer))
-      | inr fault ↦ let read = subst (λ r. MeetsReadFault r shelf ends.texts) is fault in calm.read read.role read.rose
+unfolding Ending
+usage_always words shelf out notes status outcome wrong =
+    elim (ending words shelf out notes status outcome) [
+      | inl ends ↦ inl (sym ends.status_is ∙ usage_meant (words_of words) shelf.held shelf ends.texts wrong ends.meant)
+      | inr cut ↦ elim cut [ inl write ↦ inr (inl write.0) | inr memory ↦ inr (inr memory) ]
     ]
-complete s p o held words shelf out notes Write is told kept calm breaks =
-    elim breaks.broke [ inl broke ↦ calm.out_taken broke.rose | inr broke ↦ calm.notes_taken broke.rose ]
-complete s p o held words shelf out notes Memory is told kept calm ends = tt
-complete s p o held words shelf out notes TooMany is told kept calm ends = tt
-complete s p o held words shelf out notes Spent is told kept calm ends = ends
+
+-- ---- refusals of the input
+
+never_input : (command : Command) → IsAnswered command Input → ⊥
+never_input (Explain s p o) answered = answered
+never_input (Apply p d) answered = answered
+
+settled : (command : Command) (held : Contents) (status : Status) → Ended command (Some held) status → Shows command held status ⊎ IsCutShort status
+unfolding Ended
+settled command held status (inl answered) = inl (subst (Shows command held) answered.1 (shows command held answered.0 answered.2))
+settled command held status (inr cut) = inr cut
+
+input_only : (command : Command) (held : Contents) (status : Status) → Shows command held status ⊎ IsCutShort status → status ≡ Input → Refuses command held
+unfolding Shows
+input_only command held status (inl (inl refused)) e = refused.1
+input_only command held status (inl (inr ready)) e = absurd (never_input command (subst (IsAnswered command) e ready.1))
+input_only command held status (inr cut) e = absurd (subst IsCutShort e cut)
+
+input_always : (command : Command) (held : Contents) (status : Status) → Shows command held status ⊎ IsCutShort status → Refuses command held → (status ≡ Input) ⊎ IsCutShort status
+unfolding Shows
+input_always command held status (inl (inl refused)) refuses = inl refused.0
+input_always command held status (inl (inr ready)) refuses = absurd (ready_unrefused command held ready.2 refuses)
+input_always command held status (inr cut) refuses = inr cut
+
+-- ---- the statuses of `explain`
+
+-- graphs of one input that are few are not many
+few_or_many : (names : Names) (held : Contents) (g h : Graphs) → IsInput names held g → IsInput names held h → candidate_count g.present g.offered ≤ 12 → 12 < candidate_count h.present h.offered → ⊥
+few_or_many names held g h a b few many =
+    let count = ap (λ (k : Graphs). candidate_count k.present k.offered) (one_input names held g h a.documents b.documents) in
+    omega (arith, count)
+
+-- a pair that explains, and none
+pair_or_none : (names : Names) (held : Contents) (g : Graphs) (out : List ℕ) → HasNoPair names held g → ClaimsPair names held out → ⊥
+pair_or_none names held g out none claim =
+    let same = one_input names held g claim.graphs none.0.documents claim.input.documents in
+    let unexplained = subst (λ (k : Graphs). NoneExplains (Conforms k.shapes) k.present (without k.offered k.present)) same none.2 in
+    unexplained claim.adds claim.deletes claim.minimal.explains
+
+Explained : List ℕ → List ℕ → List ℕ → Contents → Status → Type 0
+Explained s p o held status = ExplainShows (Explain s p o) (record { shapes = s; present = p; offered = o }) held status ⊎ IsCutShort status
+
+explained : (s p o : List ℕ) (held : Contents) (status : Status) → Ended (Explain s p o) (Some held) status → Explained s p o held status
+unfolding Ended Explained
+explained s p o held status (inl answered) =
+    let t = answered.0 in
+    let names : Names = record { shapes = s; present = p; offered = o } in
+    inl (subst (ExplainShows (Explain s p o) names held) answered.1 (explain_shows (Explain s p o) names held t.status t.out t.notes answered.2))
+explained s p o held status (inr cut) = inr cut
+
+many_only : (s p o : List ℕ) (held : Contents) (status : Status) → Explained s p o held status → status ≡ TooMany → (g : Graphs) × IsTooMuch (record { shapes = s; present = p; offered = o }) held g
+unfolding Explained
+many_only s p o held status (inl (inl refused)) e = let other = refused.0 in absurd cc
+many_only s p o held status (inl (inr (inl many))) e = many.1
+many_only s p o held status (inl (inr (inr (inl none)))) e = let other = none.0 in absurd cc
+many_only s p o held status (inl (inr (inr (inr pair)))) e = let other = pair.0 in absurd cc
+many_only s p o held status (inr cut) e = absurd (subst IsCutShort e cut)
+
+many_always : (s p o : List ℕ) (held : Contents) (status : Status) → Explained s p o held status → (g : Graphs) → IsTooMuch (record { shapes = s; present = p; offered = o }) held g → (status ≡ TooMany) ⊎ IsCutShort status
+unfolding Explained
+many_always s p o held status (inl (inl refused)) g much = absurd (ready_unrefused (Explain s p o) held (g, much.0) refused.1)
+many_always s p o held status (inl (inr (inl many))) g much = inl many.0
+many_always s p o held status (inl (inr (inr (inl none)))) g much = let few = none.1.1 in absurd (few_or_many _ held none.1.0 g few.0 much.0 few.1 much.1)
+many_always s p o held status (inl (inr (inr (inr pair)))) g much = let claim = pair.1.1 in absurd (few_or_many _ held claim.graphs g claim.input much.0 claim.few much.1)
+many_always s p o held status (inr cut) g much = inr cut
+
+none_only : (s p o : List ℕ) (held : Contents) (status : Status) → Explained s p o held status → status ≡ No → (g : Graphs) × HasNoPair (record { shapes = s; present = p; offered = o }) held g
+unfolding Explained
+none_only s p o held status (inl (inl refused)) e = let other = refused.0 in absurd cc
+none_only s p o held status (inl (inr (inl many))) e = let other = many.0 in absurd cc
+none_only s p o held status (inl (inr (inr (inl none)))) e = none.1
+none_only s p o held status (inl (inr (inr (inr pair)))) e = let other = pair.0 in absurd cc
+none_only s p o held status (inr cut) e = absurd (subst IsCutShort e cut)
+
+none_always : (s p o : List ℕ) (held : Contents) (status : Status) → Explained s p o held status → (g : Graphs) → HasNoPair (record { shapes = s; present = p; offered = o }) held g → (status ≡ No) ⊎ IsCutShort status
+unfolding Explained
+none_always s p o held status (inl (inl refused)) g none = absurd (ready_unrefused (Explain s p o) held (g, none.0) refused.1)
+none_always s p o held status (inl (inr (inl many))) g none = let much = many.1.1 in absurd (few_or_many _ held g many.1.0 none.0 much.0 none.1 much.1)
+none_always s p o held status (inl (inr (inr (inl shown)))) g none = inl shown.0
+none_always s p o held status (inl (inr (inr (inr pair)))) g none = absurd (pair_or_none _ held g pair.1.0 none pair.1.1)
+none_always s p o held status (inr cut) g none = inr cut
+
+own_causes : (command : Command) (held : Contents) (status : Status) → Ended command (Some held) status → CommandCauses command held status
+own_causes (Explain s p o) held status ends =
+    let shown = explained s p o held status ends in
+    record {
+      many_only = many_only s p o held status shown;
+      many_always = many_always s p o held status shown;
+      none_only = none_only s p o held status shown;
+      none_always = none_always s p o held status shown;
+    }
+own_causes (Apply p d) held status ends = tt
+
+input_causes : (command : Command) (held : Contents) (status : Status) → Ended command (Some held) status → InputCauses command held status
+input_causes command held status ends =
+    let shown = settled command held status ends in
+    record {
+      input_only = input_only command held status shown;
+      input_always = input_always command held status shown;
+      own = own_causes command held status ends;
+    }
+
+-- ---- an input that is not refused is answered, unless the outside fails
+
+memory_answers : (command : Command) (status : Status) → status ≡ Memory → IsAnswered command status
+memory_answers (Explain s p o) status e = subst IsExplained (sym e) tt
+memory_answers (Apply p d) status e = subst IsApplied (sym e) tt
+
+answers_unrefused : (command : Command) (held : Contents) (t : Texts) (status : Status) → t.status ≡ status → ¬ (Refuses command held) → CommandAnswers command held t → IsAnswered command status
+unfolding Shows
+answers_unrefused command held t status e kept answer =
+    elim (shows command held t answer) [ inl refused ↦ absurd (kept refused.1) | inr ready ↦ subst (IsAnswered command) e ready.1 ]
+
+complete : (command : Command) (held : Contents) (words : List (List ℕ)) (shelf : ShelfTold) (out notes : SinkTold) (status : Status) → words_of words ≡ Ok command → shelf.held ≡ Some held → ¬ (Refuses command held) → IsUndisturbed (documents_of command) shelf out notes → Outcome words shelf out notes status → IsAnswered command status
+unfolding Ending
+complete command held words shelf out notes status is told kept calm outcome =
+    elim (ending words shelf out notes status outcome) [
+      | inl ends ↦ elim ends.meant [
+        | inl answer ↦ answers_unrefused command held ends.texts status ends.status_is kept (subst (λ (h : Held). CommandAnswersIn command h ends.texts) told (subst (λ (r : Result Command ℕ). Answers r shelf.held ends.texts) is answer))
+        | inr fault ↦
+            let read = subst (λ (r : Result Command ℕ). MeetsReadFault r shelf ends.texts) is fault in
+            let Calm : Named → Type 0 = λ document. ¬ (Rose (shelf.before document.name) (shelf.after document.name)) in
+            absurd (All-middle Calm read.next.before read.next.after (record { role = read.role; name = read.name }) (subst (All Calm) read.next.parts calm.read) read.rose)
+      ]
+      | inr cut ↦ elim cut [
+        | inl write ↦ elim write.1.broke [ inl broke ↦ absurd (calm.out_taken broke.rose) | inr broke ↦ absurd (calm.notes_taken broke.rose) ]
+        | inr memory ↦ memory_answers command status memory
+      ]
+    ]
 
 pub causes : (words : List (List ℕ)) (shelf : ShelfTold) (out notes : SinkTold) (status : Status) → Outcome words shelf out notes status → Causes words shelf out notes status
-causes words shelf out notes status ends =
+causes words shelf out notes status outcome =
     record {
-      usage_only = λ e. (ends_status words shelf out notes Usage (subst (Outcome words shelf out notes) e ends)).0 refl;
-      usage_always = usage_always words shelf out notes status ends;
-      never_spent = λ e. subst (Outcome words shelf out notes) e ends;
-      explain = λ s p o held is told. explain_causes (record { shapes = s; present = p; offered = o }) held status (outcome_explain s p o held shelf words out notes status is told ends);
-      complete = λ s p o held is told kept calm. complete s p o held words shelf out notes status is told kept calm ends;
+      usage_only = λ e. usage_only words shelf out notes (subst (Outcome words shelf out notes) e outcome);
+      usage_always = usage_always words shelf out notes status outcome;
+      never_spent = λ e. subst (Outcome words shelf out notes) e outcome;
+      input = λ command held is told. input_causes command held status (ended command (Some held) words shelf out notes status is told outcome);
+      complete = λ command held is told kept calm. complete command held words shelf out notes status is told kept calm outcome;
     }

@@ -1,5 +1,6 @@
 -- When each status comes: what is true where a call ends with it, and where it has to.
 use Rattle.std.specs.Prelude.{◌≡◌, ◌≢◌, ℕ, ◌<◌, ◌≤◌, ◌⊎◌, List, Some, Ok, IsErr}
+use Rattle.std.specs.List.{All}
 use Rattle.rdf_terms.specs.Graph.{without}
 use Rattle.thin_repair.specs.Answer.{candidate_count}
 use Rattle.thin_repair.specs.Conformance.{Conforms}
@@ -9,8 +10,9 @@ use Rattle.explain_cli.specs.declared.role.Role.{Role}
 use Rattle.explain_cli.specs.declared.role.Reason.{Reason}
 use Rattle.explain_cli.specs.declared.status.Status.{Status}
 use Rattle.explain_cli.specs.declared.status.Status.TheVariants.{Done, No, Usage, Input, Read, Write, Memory, TooMany, Spent}
-use Rattle.explain_cli.specs.declared.words.Command.TheVariants.{Explain}
-use Rattle.explain_cli.specs.Input.{Contents, Names, Graphs, name_of, IsInput, IsFirstRefusal}
+use Rattle.explain_cli.specs.declared.words.Command.{Command}
+use Rattle.explain_cli.specs.declared.words.Command.TheVariants.{Explain, Apply}
+use Rattle.explain_cli.specs.Input.{Contents, Named, documents_of, Names, Graphs, IsInput, IsFirstRefusal}
 use Rattle.explain_cli.specs.Outcome.{ShelfTold, SinkTold}
 use Rattle.explain_cli.specs.Words.{words_of}
 
@@ -27,9 +29,9 @@ IsCutShort Input = ⊥
 IsCutShort TooMany = ⊥
 IsCutShort Spent = ⊥
 
--- some document or the shapes are refused
-abbrev pub Refuses : Names → Contents → Type 0
-Refuses names held = (role : Role) × (reason : Reason) × IsFirstRefusal names held role reason
+-- some document, or what is behind the documents, is refused
+abbrev pub Refuses : Command → Contents → Type 0
+Refuses command held = (role : Role) × (reason : Reason) × IsFirstRefusal command held role reason
 
 -- the graphs are in order, and there are more candidates than are tried
 abbrev pub IsTooMuch : Names → Contents → Graphs → Type 0
@@ -42,28 +44,51 @@ HasNoPair names held g =
 
 -- the statuses of `explain` over documents whose bytes are told
 pub record ExplainCauses (names : Names) (held : Contents) (status : Status) : Type 0 where
-  pub input_only : status ≡ Input → Refuses names held
-  pub input_always : Refuses names held → (status ≡ Input) ⊎ IsCutShort status
   pub many_only : status ≡ TooMany → (g : Graphs) × IsTooMuch names held g
   pub many_always : (g : Graphs) → IsTooMuch names held g → (status ≡ TooMany) ⊎ IsCutShort status
   pub none_only : status ≡ No → (g : Graphs) × HasNoPair names held g
   pub none_always : (g : Graphs) → HasNoPair names held g → (status ≡ No) ⊎ IsCutShort status
 
--- the call was not cut short: it ended with an answer, or for want of memory
-abbrev pub IsAnswered : Status → Type 0
-IsAnswered Done = Unit {0}
-IsAnswered No = Unit {0}
-IsAnswered TooMany = Unit {0}
-IsAnswered Memory = Unit {0}
-IsAnswered Usage = ⊥
-IsAnswered Input = ⊥
-IsAnswered Read = ⊥
-IsAnswered Write = ⊥
-IsAnswered Spent = ⊥
+abbrev pub CommandCauses : Command → Contents → Status → Type 0
+CommandCauses (Explain shapes present offered) held status = ExplainCauses (record { shapes = shapes; present = present; offered = offered }) held status
+CommandCauses (Apply present document) held status = Unit {0}
+
+-- the statuses of a command over documents whose bytes are told
+pub record InputCauses (command : Command) (held : Contents) (status : Status) : Type 0 where
+  pub input_only : status ≡ Input → Refuses command held
+  pub input_always : Refuses command held → (status ≡ Input) ⊎ IsCutShort status
+  pub own : CommandCauses command held status
+
+-- a command that was neither refused nor cut short but for want of memory ended with its answer
+abbrev pub IsExplained : Status → Type 0
+IsExplained Done = Unit {0}
+IsExplained No = Unit {0}
+IsExplained TooMany = Unit {0}
+IsExplained Memory = Unit {0}
+IsExplained Usage = ⊥
+IsExplained Input = ⊥
+IsExplained Read = ⊥
+IsExplained Write = ⊥
+IsExplained Spent = ⊥
+
+abbrev pub IsApplied : Status → Type 0
+IsApplied Done = Unit {0}
+IsApplied Memory = Unit {0}
+IsApplied No = ⊥
+IsApplied TooMany = ⊥
+IsApplied Usage = ⊥
+IsApplied Input = ⊥
+IsApplied Read = ⊥
+IsApplied Write = ⊥
+IsApplied Spent = ⊥
+
+abbrev pub IsAnswered : Command → Status → Type 0
+IsAnswered (Explain shapes present offered) status = IsExplained status
+IsAnswered (Apply present document) status = IsApplied status
 
 -- no pull of a named document and no write failed
-pub record IsUndisturbed (names : Names) (shelf : ShelfTold) (out notes : SinkTold) : Type 0 where
-  pub read : (role : Role) → ¬ (Rose (shelf.before (name_of role names)) (shelf.after (name_of role names)))
+pub record IsUndisturbed (documents : List Named) (shelf : ShelfTold) (out notes : SinkTold) : Type 0 where
+  pub read : All (λ document. ¬ (Rose (shelf.before document.name) (shelf.after document.name))) documents
   pub out_taken : ¬ (Rose out.faults_before out.faults_after)
   pub notes_taken : ¬ (Rose notes.faults_before notes.faults_after)
 
@@ -72,6 +97,6 @@ pub record Causes (words : List (List ℕ)) (shelf : ShelfTold) (out notes : Sin
   pub usage_only : status ≡ Usage → IsErr (words_of words)
   pub usage_always : IsErr (words_of words) → (status ≡ Usage) ⊎ (status ≡ Write) ⊎ (status ≡ Memory)
   pub never_spent : status ≢ Spent
-  pub explain : (s p o : List ℕ) (held : Contents) → words_of words ≡ Ok (Explain s p o) → shelf.held ≡ Some held → ExplainCauses (record { shapes = s; present = p; offered = o }) held status
+  pub input : (command : Command) (held : Contents) → words_of words ≡ Ok command → shelf.held ≡ Some held → InputCauses command held status
   -- an input that is not refused is answered, unless the outside fails
-  pub complete : (s p o : List ℕ) (held : Contents) → words_of words ≡ Ok (Explain s p o) → shelf.held ≡ Some held → ¬ (Refuses (record { shapes = s; present = p; offered = o }) held) → IsUndisturbed (record { shapes = s; present = p; offered = o }) shelf out notes → IsAnswered status
+  pub complete : (command : Command) (held : Contents) → words_of words ≡ Ok command → shelf.held ≡ Some held → ¬ (Refuses command held) → IsUndisturbed (documents_of command) shelf out notes → IsAnswered command status

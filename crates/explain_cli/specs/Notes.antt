@@ -1,9 +1,9 @@
 -- The lines that are written to the notes.
 use Rattle.std.specs.Prelude.{ℕ, List, [], ◌∷◌, ◌++◌, codes, decimal}
 use Rattle.explain_cli.specs.declared.role.Role.{Role}
-use Rattle.explain_cli.specs.declared.role.Role.TheVariants.{Shapes, Data, Offered}
+use Rattle.explain_cli.specs.declared.role.Role.TheVariants.{Shapes, Data, Offered, Document}
 use Rattle.explain_cli.specs.declared.role.Reason.{Reason}
-use Rattle.explain_cli.specs.declared.role.Reason.TheVariants.{TooLong, NotReadYet, Line}
+use Rattle.explain_cli.specs.declared.role.Reason.TheVariants.{TooLong, NotReadYet, Line, NoPair, PairOutside}
 
 -- a text as a line
 abbrev pub line : List ℕ → List ℕ
@@ -13,11 +13,14 @@ abbrev pub role_text : Role → List ℕ
 role_text Shapes = codes "SHAPES"
 role_text Data = codes "DATA"
 role_text Offered = codes "OFFERED"
+role_text Document = codes "DOCUMENT"
 
 abbrev pub reason_text : Reason → List ℕ
 reason_text TooLong = codes "too long"
 reason_text NotReadYet = codes "not read yet"
 reason_text (Line number) = codes "line " ++ decimal number
+reason_text NoPair = codes "no pair"
+reason_text (PairOutside number) = codes "pair outside line " ++ decimal number
 
 abbrev pub usage_line : ℕ → List ℕ
 usage_line position = line (codes "usage: word " ++ decimal position)

@@ -1,5 +1,5 @@
 -- What a call leaves in its two sinks, and why.
-use Rattle.std.specs.Prelude.{◌≡◌, ℕ, ◌⊎◌, List, [], Option, None, Some, Result, Ok, Err}
+use Rattle.std.specs.Prelude.{◌≡◌, ℕ, ◌⊎◌, List, [], Option, Result, Ok, Err}
 use Rattle.shelf_io.specs.Held.{Held}
 use Rattle.shelf_io.specs.Documents.{Gained, GainedPrefix}
 use Rattle.shelf_io.specs.Causes.{Rose}
@@ -7,10 +7,10 @@ use Rattle.explain_cli.specs.declared.role.Role.{Role}
 use Rattle.explain_cli.specs.declared.status.Status.{Status}
 use Rattle.explain_cli.specs.declared.status.Status.TheVariants.{Done, No, Usage, Input, Read, Write, Memory, TooMany, Spent}
 use Rattle.explain_cli.specs.declared.words.Command.{Command}
-use Rattle.explain_cli.specs.Input.{Names, name_of, AreEarlierRead}
+use Rattle.explain_cli.specs.Input.{Named, documents_of, IsNext}
 use Rattle.explain_cli.specs.Notes.{read_line}
 use Rattle.explain_cli.specs.Words.{words_of}
-use Rattle.explain_cli.specs.Answer.{Texts, Answers, names_of}
+use Rattle.explain_cli.specs.Answer.{Texts, Answers}
 
 -- a shelf before and after the call: what it holds, where it tells, and its counts of faults
 pub record ShelfTold : Type 0 where
@@ -25,22 +25,19 @@ pub record SinkTold : Type 0 where
   pub faults_before : ℕ
   pub faults_after : ℕ
 
--- no document before that of the role is refused, where the shelf tells what it holds
-abbrev pub AreEarlierReadIn : Role → Names → Held → Type 0
-AreEarlierReadIn role names None = Unit {0}
-AreEarlierReadIn role names (Some held) = AreEarlierRead role names held
-
--- the document of the role could not be read: the shelf's count of its name rose
-pub record IsReadFault (names : Names) (shelf : ShelfTold) (t : Texts) : Type 0 where
+-- The document of a role could not be read: the shelf's count of its name rose. Those before it are in order,
+-- where the shelf tells what it holds.
+pub record IsReadFault (documents : List Named) (shelf : ShelfTold) (t : Texts) : Type 0 where
   pub role : Role
-  pub rose : Rose (shelf.before (name_of role names)) (shelf.after (name_of role names))
-  pub earlier : AreEarlierReadIn role names shelf.held
+  pub name : List ℕ
+  pub next : IsNext documents shelf.held role name
+  pub rose : Rose (shelf.before name) (shelf.after name)
   pub texts : t ≡ record { status = Read; out = []; notes = read_line role }
 
 -- a read fault comes only where the words are in order
 abbrev pub MeetsReadFault : Result Command ℕ → ShelfTold → Texts → Type 0
 MeetsReadFault (Err position) shelf t = ⊥
-MeetsReadFault (Ok command) shelf t = IsReadFault (names_of command) shelf t
+MeetsReadFault (Ok command) shelf t = IsReadFault (documents_of command) shelf t
 
 -- the texts that a call means to write: an answer to the words, or those of a read fault
 abbrev pub Means : List (List ℕ) → ShelfTold → Texts → Type 0

@@ -1,6 +1,7 @@
 ghost use Rattle.std.specs.Prelude.{◌≡◌, ◌++◌, OnOk, IfOk};
 ghost use Rattle.rdf_terms.specs.Graph.{triples};
-ghost use Rattle.explain_cli.specs.ClaimText.{lines_with, claim_of_pair};
+ghost use Rattle.certificates.specs.DocumentText.{lines_with};
+ghost use Rattle.explain_cli.specs.ClaimText.{claim_of_pair};
 
 use ntriples_io::write_triple;
 use rdf_terms::{Bytes, Graph, OutOfMemory};

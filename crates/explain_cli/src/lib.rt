@@ -2,8 +2,10 @@
 //! shelf of documents and any two sinks.
 #![tactic(auto)]
 
+mod apply;
 mod claim;
 mod documents;
+mod explain;
 mod report;
 mod role;
 mod status;

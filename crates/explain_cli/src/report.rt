@@ -1,5 +1,6 @@
 ghost use Rattle.std.specs.Prelude.{◌≡◌, [], IfOk};
 
+use crate::documents::{Blame, Fault};
 use crate::{Reason, Role, Status};
 use rdf_terms::{Bytes, OutOfMemory};
 use std::alloc::Global;
@@ -34,6 +35,7 @@ fn noted(alloc: Global, status: Status, line: &str) -> Result<Report, OutOfMemor
 
 impl Report {
     ghost use Rattle.explain_cli.specs.Notes.{usage_line, input_line, read_line, too_many_line};
+    ghost use Rattle.explain_cli.specs.Report.{texts_of, IsBlameReport};
 
     /// The words are wrong from that position on.
     pub fn usage(alloc: Global, position: usize) -> Result<Report, OutOfMemory>
@@ -65,5 +67,16 @@ impl Report {
     {
         let line = format!(in alloc; "too many: {candidates}\n")?;
         noted(alloc, Status::TooMany, line.as_str())
+    }
+
+    /// The document was not read or is refused.
+    pub fn blame(alloc: Global, blame: Blame) -> Result<Report, OutOfMemory>
+        ensures { IfOk result (λ r. IsBlameReport blame.role blame.fault (texts_of r)) }
+    {
+        match blame.fault {
+            Fault::Unread => Report::read(alloc, blame.role),
+            Fault::Refused { reason } => Report::input(alloc, blame.role, reason),
+            Fault::OutOfMemory => Err(OutOfMemory),
+        }
     }
 }

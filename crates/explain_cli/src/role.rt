@@ -9,6 +9,8 @@ pub enum Role {
     Data,
     /// The offered triples.
     Offered,
+    /// The document of a claim.
+    Document,
 }
 
 impl fmt::Display for Role {
@@ -22,6 +24,7 @@ impl fmt::Display for Role {
             Role::Shapes => f.write_str("SHAPES"),
             Role::Data => f.write_str("DATA"),
             Role::Offered => f.write_str("OFFERED"),
+            Role::Document => f.write_str("DOCUMENT"),
         }
     }
 }
@@ -33,8 +36,14 @@ pub enum Reason {
     TooLong,
     /// It is in a format, or its shapes are in a part of SHACL, that is not read yet.
     NotReadYet,
-    /// That line, counted from 1, is the first that is no line of N-Triples.
+    /// That line, counted from 1, is the first that is no line of N-Triples, or that can't stand where
+    /// it stands in the document of a claim.
     Line { line: u64 },
+    /// The document claims no pair.
+    NoPair,
+    /// On that line, counted from 1, stands the first addition that is in the data already, or the
+    /// first deletion that is not in it.
+    PairOutside { line: u64 },
 }
 
 impl fmt::Display for Reason {
@@ -48,6 +57,8 @@ impl fmt::Display for Reason {
             Reason::TooLong => f.write_str("too long"),
             Reason::NotReadYet => f.write_str("not read yet"),
             Reason::Line { line } => write!(f, "line {line}"),
+            Reason::NoPair => f.write_str("no pair"),
+            Reason::PairOutside { line } => write!(f, "pair outside line {line}"),
         }
     }
 }

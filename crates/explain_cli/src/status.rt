@@ -4,13 +4,13 @@ ghost use Rattle.explain_cli.specs.ExitCode.{code_of};
 /// How a call ended.
 #[derive(Clone, Copy, Debug, PartialEq, Eq)]
 pub enum Status {
-    /// The answer is a pair.
+    /// The answer is a pair, or the data with a pair applied.
     Done,
     /// The answer is that no pair explains.
     No,
     /// The words are no command.
     Usage,
-    /// A document is refused.
+    /// A document is refused, or what the documents together are.
     Input,
     /// A document could not be read.
     Read,

@@ -1,66 +1,15 @@
 ghost use Rattle.std.specs.Prelude.{◌≡◌, map, string_bytes, IfOk};
 ghost use Rattle.explain_cli.specs.Causes.{Causes};
 ghost use Rattle.explain_cli.specs.Outcome.{Outcome, Means};
-ghost use Rattle.explain_cli.specs.Report.{texts_of, texts_of_explanation, IsBlameReport, MeansCommand};
+ghost use Rattle.explain_cli.specs.Report.{texts_of};
 
-use crate::claim::claim_pair;
-use crate::documents::{Blame, Fault, read_input};
-use crate::report::{Report, bytes_of};
-use crate::{Command, Reason, Role, Status, WordsRefusal, read_words};
-use rdf_terms::{Bytes, OutOfMemory};
+use crate::apply::apply_report;
+use crate::explain::explain_report;
+use crate::report::Report;
+use crate::{Command, Status, WordsRefusal, read_words};
+use rdf_terms::OutOfMemory;
 use shelf_io::{Shelf, Sink, write_all_of};
 use std::alloc::Global;
-use thin_repair::{Explanation, explain};
-
-/// The report of what was found of the input.
-fn explanation_report(alloc: Global, found: &Explanation) -> Result<Report, OutOfMemory>
-    ensures { IfOk result (λ r. texts_of r ≡ texts_of_explanation found.now) }
-{
-    match found {
-        Explanation::NotThin => Report::input(alloc, Role::Shapes, Reason::NotReadYet),
-        Explanation::TooMany { candidates } => Report::too_many(alloc, *candidates),
-        Explanation::Pair { adds, deletes } => Ok(Report {
-            status: Status::Done,
-            out: claim_pair(alloc, adds, deletes)?,
-            notes: Bytes::new(alloc),
-        }),
-        Explanation::NoPair => Ok(Report {
-            status: Status::No,
-            out: bytes_of(alloc, "claim none\n")?,
-            notes: Bytes::new(alloc),
-        }),
-    }
-}
-
-/// The report of a document that gave no graph.
-fn blame_report(alloc: Global, blame: Blame) -> Result<Report, OutOfMemory>
-    ensures { IfOk result (λ r. IsBlameReport blame.role blame.fault (texts_of r)) }
-{
-    match blame.fault {
-        Fault::Unread => Report::read(alloc, blame.role),
-        Fault::Refused { reason } => Report::input(alloc, blame.role, reason),
-        Fault::OutOfMemory => Err(OutOfMemory),
-    }
-}
-
-/// The report of `explain`.
-fn explain_report<H: Shelf>(
-    alloc: Global,
-    shelf: &mut H,
-    shapes: &str,
-    present: &str,
-    offered: &str,
-) -> Result<Report, OutOfMemory>
-    ensures { IfOk result (λ r. MeansCommand (Command.Explain shapes.now present.now offered.now) (record { held = H.held shelf.old; before = H.faults shelf.old; after = H.faults shelf.new }) (texts_of r)) }
-{
-    match read_input(alloc, shelf, shapes, present, offered) {
-        Ok(input) => {
-            let found = explain(alloc, &input.shapes, &input.present, &input.offered)?;
-            explanation_report(alloc, &found)
-        }
-        Err(blame) => blame_report(alloc, blame),
-    }
-}
 
 /// The report of the words, with all its bytes.
 fn report_of<H: Shelf>(
@@ -84,6 +33,9 @@ fn report_of<H: Shelf>(
             present.as_str(),
             offered.as_str(),
         ),
+        Ok(Command::Apply { present, document }) => {
+            apply_report(alloc, shelf, present.as_str(), document.as_str())
+        }
         Err(WordsRefusal::Word { position }) => Report::usage(alloc, position),
         Err(WordsRefusal::OutOfMemory) => Err(OutOfMemory),
     }

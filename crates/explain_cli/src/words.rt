@@ -1,6 +1,7 @@
 ghost use Rattle.std.specs.Prelude.{◌≡◌, map, string_bytes, IfOk, IfErr};
-ghost use Rattle.explain_cli.specs.Words.{words_of};
+ghost use Rattle.explain_cli.specs.Words.{words_of, explain_of, apply_of};
 ghost use Rattle.explain_cli.specs.WordsRefusal.{IsRefusedFor};
+ghost use Rattle.explain_cli.specs.declared.words.WordsRefusal.TheVariants.{OutOfMemory as NoCommand};
 
 use rdf_terms::{OutOfMemory, Text};
 use std::alloc::Global;
@@ -16,6 +17,11 @@ pub enum Command {
         present: Text,
         offered: Text,
     },
+    /// Apply the pair that a document claims to the data, by the names of the two.
+    Apply {
+        present: Text,
+        document: Text,
+    },
 }
 
 /// Why no command was read.
@@ -29,41 +35,60 @@ pub enum WordsRefusal {
     OutOfMemory,
 }
 
-/// Reads the words after the program's name: `explain SHAPES DATA OFFERED`.
+impl From<OutOfMemory> for WordsRefusal {
+    ghost from_gives = { λ _ refusal. refusal ≡ NoCommand };
+
+    fn from(_: OutOfMemory) -> WordsRefusal {
+        WordsRefusal::OutOfMemory
+    }
+}
+
+/// Reads the words after the program's name: `explain SHAPES DATA OFFERED` or `apply DATA DOCUMENT`.
 ///
 /// `Word` comes exactly where the words are no command.
 pub fn read_words(alloc: Global, words: &[String]) -> Result<Command, WordsRefusal>
     ensures ok { IfOk result (λ command. words_of (map string_bytes words.now) ≡ Ok command) }
     ensures err { IfErr result (λ refusal. IsRefusedFor (words_of (map string_bytes words.now)) refusal) }
 {
-    let Some(first) = words.get(0) else {
+    let [first, names @ ..] = words else {
         return Err(WordsRefusal::Word { position: 0 });
     };
-    if first.as_str() != "explain" {
-        return Err(WordsRefusal::Word { position: 0 });
+    match first.as_str() {
+        "explain" => read_explain(alloc, names),
+        "apply" => read_apply(alloc, names),
+        _ => Err(WordsRefusal::Word { position: 0 }),
     }
-    match words {
-        [_, shapes, present, offered] => match explain_command(alloc, shapes, present, offered) {
-            Ok(command) => Ok(command),
-            Err(_) => Err(WordsRefusal::OutOfMemory),
-        },
+}
+
+/// Reads the words after `explain`.
+fn read_explain(alloc: Global, names: &[String]) -> Result<Command, WordsRefusal>
+    ensures ok { IfOk result (λ command. explain_of (map string_bytes names.now) ≡ Ok command) }
+    ensures err { IfErr result (λ refusal. IsRefusedFor (explain_of (map string_bytes names.now)) refusal) }
+{
+    match names {
+        [shapes, present, offered] => Ok(Command::Explain {
+            shapes: Text::from_str(alloc, shapes.as_str())?,
+            present: Text::from_str(alloc, present.as_str())?,
+            offered: Text::from_str(alloc, offered.as_str())?,
+        }),
         _ => Err(WordsRefusal::Word {
-            position: words.len().min(4),
+            position: names.len().min(3) + 1,
         }),
     }
 }
 
-fn explain_command(
-    alloc: Global,
-    shapes: &String,
-    present: &String,
-    offered: &String,
-) -> Result<Command, OutOfMemory>
-    ensures { IfOk result (λ command. command ≡ Command.Explain (string_bytes shapes.now) (string_bytes present.now) (string_bytes offered.now)) }
+/// Reads the words after `apply`.
+fn read_apply(alloc: Global, names: &[String]) -> Result<Command, WordsRefusal>
+    ensures ok { IfOk result (λ command. apply_of (map string_bytes names.now) ≡ Ok command) }
+    ensures err { IfErr result (λ refusal. IsRefusedFor (apply_of (map string_bytes names.now)) refusal) }
 {
-    Ok(Command::Explain {
-        shapes: Text::from_str(alloc, shapes.as_str())?,
-        present: Text::from_str(alloc, present.as_str())?,
-        offered: Text::from_str(alloc, offered.as_str())?,
-    })
+    match names {
+        [present, document] => Ok(Command::Apply {
+            present: Text::from_str(alloc, present.as_str())?,
+            document: Text::from_str(alloc, document.as_str())?,
+        }),
+        _ => Err(WordsRefusal::Word {
+            position: names.len().min(2) + 1,
+        }),
+    }
 }

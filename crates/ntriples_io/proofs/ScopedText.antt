@@ -2,7 +2,7 @@
 use Rattle.std.proofs.Common.{◌≡◌, ℕ, true, List, [], ◌∷◌, Option, Some, None, refl, sym, subst, ◌∙◌, inl, inr}
 use Rattle.std.specs.Prelude.{IsTrue}
 use Rattle.std.specs.List.{All}
-use Rattle.std.proofs.lemmas.List.Elements.{All-nil, All-cons, All-append, All-contains}
+use Rattle.std.proofs.lemmas.List.Elements.{All-nil, All-cons, All-append, All-contains, All-head}
 use Rattle.grammar_forms.specs.Forms.{optional}
 use Rattle.rdf_terms.specs.declared.term.Scope.{Scope}
 use Rattle.rdf_terms.specs.declared.term.Term.{Term}
@@ -13,7 +13,9 @@ use Rattle.ntriples_io.specs.NTriples.{iri, blank, subject, literal, object, tri
 use Rattle.ntriples_io.specs.Cutting.{Line, lines_of}
 use Rattle.ntriples_io.specs.Lines.{IsLine}
 use Rattle.ntriples_io.specs.Text.{listed, AreLines, NtText}
-use Rattle.ntriples_io.specs.RoundTrip.{IsInScope, IsTripleInScope, HasScope, IsTriple}
+use Rattle.ntriples_io.specs.RoundTrip.{IsInScope, IsTripleInScope, HasScope, IsTriple, IsLineOf}
+use Rattle.rdf_grammar.specs.Lawful.{IsLawfulTriple}
+use Rattle.ntriples_io.proofs.LawfulText.{line_lawful}
 use Rattle.ntriples_io.proofs.OnlyTriples.{AreTriples}
 
 record IsNode (scope : Scope) (t : Term) : Type 0 where
@@ -42,9 +44,9 @@ object_scope scope a v h =
       | inr k ↦ elim k [ inl b ↦ let n = blank_node scope a v b in n.in_scope | inr l ↦ literal_scope scope a v l ]
     ]
 
-record IsScoped (scope : Scope) (t : Statement) : Type 0 where
-  is_triple : IsTriple t
-  in_scope : IsTripleInScope scope t
+pub record IsScoped (scope : Scope) (t : Statement) : Type 0 where
+  pub is_triple : IsTriple t
+  pub in_scope : IsTripleInScope scope t
 
 triple_scoped : (scope : Scope) (a : List ℕ) (v : Statement) → triple scope a v → IsScoped scope v
 triple_scoped scope a v h =
@@ -63,7 +65,7 @@ found_scoped : (scope : Scope) (a : List ℕ) (o : Option Statement) → optiona
 found_scoped scope a None h = All-nil (IsScoped scope)
 found_scoped scope a (Some t) h = All-cons (IsScoped scope) t [] (triple_scoped scope a t h) (All-nil (IsScoped scope))
 
-line_scoped : (scope : Scope) (bytes : List ℕ) (v : Option Statement) → IsLine scope bytes v → All (IsScoped scope) (listed v)
+pub line_scoped : (scope : Scope) (bytes : List ℕ) (v : Option Statement) → IsLine scope bytes v → All (IsScoped scope) (listed v)
 line_scoped scope bytes v h =
     let inner = h.spelled.spelled.second in
     subst (λ (o : Option Statement). All (IsScoped scope) (listed o)) (sym (h.spelled.means ∙ inner.means)) (found_scoped scope inner.spelled.front inner.own.0 inner.spelled.first)
@@ -82,3 +84,11 @@ text_has_scope bytes scope g h t has_t = let k = text_scoped bytes scope g h t h
 
 pub text_triples : (bytes : List ℕ) (scope : Scope) (g : Graph) → NtText bytes scope g → AreTriples g
 text_triples bytes scope g h t has_t = let k = text_scoped bytes scope g h t has_t in k.is_triple
+
+-- ---- one line
+
+pub spelled_lawful : (scope : Scope) (text : List ℕ) (t : Statement) → IsLineOf scope text t → IsLawfulTriple t
+spelled_lawful scope text t h = All-head IsLawfulTriple t [] (line_lawful scope h.line (Some t) h.is_line)
+
+pub spelled_scoped : (scope : Scope) (text : List ℕ) (t : Statement) → IsLineOf scope text t → IsScoped scope t
+spelled_scoped scope text t h = All-head (IsScoped scope) t [] (line_scoped scope h.line (Some t) h.is_line)

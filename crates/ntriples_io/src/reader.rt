@@ -24,6 +24,7 @@ pub struct NtReader {
 }
 
 impl NtReader {
+    ghost use Rattle.ntriples_io.specs.RoundTrip.{HasScope};
     ghost use Rattle.ntriples_io.specs.Text.{IsAnswer, IsOnlyAnswer, AreLawful};
     ghost use Rattle.ntriples_io.specs.Feeding.{HasRead, HasReadOr, scope_of, taken_by, refusal_of};
 
@@ -152,6 +153,7 @@ impl NtReader {
         ensures only { (so_far : List ℕ) → HasRead self so_far →
             IsOnlyAnswer so_far (scope_of self) result }
         ensures lawful { (so_far : List ℕ) → HasRead self so_far → IfOk result AreLawful }
+        ensures scope { (so_far : List ℕ) → HasRead self so_far → IfOk result (HasScope (scope_of self)) }
         ensures same { IfSome (refusal_of self) (λ e. result ≡ Err e) }
     {
         let NtReader {

@@ -1,4 +1,5 @@
 ghost use Rattle.std.specs.Prelude.{◌<◌, ◌^◌, length, IfOk};
+ghost use Rattle.ntriples_io.specs.RoundTrip.{HasScope};
 ghost use Rattle.ntriples_io.specs.Text.{IsAnswer, IsOnlyAnswer, AreLawful, joined};
 
 use crate::{NtReader, NtRefusal};
@@ -11,6 +12,7 @@ pub fn read_ntriples(alloc: Global, scope: Scope, bytes: &[u8]) -> Result<Graph,
     ensures answer { IsAnswer bytes.now scope result }
     ensures only { IsOnlyAnswer bytes.now scope result }
     ensures lawful { IfOk result AreLawful }
+    ensures scope { IfOk result (HasScope scope) }
 {
     let mut reader = NtReader::new(alloc, scope);
     reader.feed(bytes)?;
@@ -24,6 +26,7 @@ pub fn read_pieces(alloc: Global, scope: Scope, pieces: &[Bytes]) -> Result<Grap
     ensures answer { IsAnswer (joined pieces.now) scope result }
     ensures only { IsOnlyAnswer (joined pieces.now) scope result }
     ensures lawful { IfOk result AreLawful }
+    ensures scope { IfOk result (HasScope scope) }
 {
     let mut reader = NtReader::new(alloc, scope);
     for piece in pieces {

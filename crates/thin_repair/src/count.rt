@@ -3,18 +3,15 @@ ghost use Rattle.thin_repair.specs.Vocabulary.{count_literal};
 ghost use Rattle.thin_repair.specs.ThinShapes.{IsThinCount};
 
 use crate::vocabulary::INTEGER;
+use numerals::read_numeral;
 use rdf_terms::Term;
 
-/// The number of at most 32 bits that the text spells in decimal digits, without a leading zero.
+/// The number of at most 32 bits that the text spells in decimal digits, without a sign and without
+/// a leading zero.
 fn parse_decimal(text: &str) -> Option<u32>
     ensures { MatchOption result ((n : ℕ) → n < 2 ^ 32 → text.now ≢ decimal n) (λ n. text.now ≡ decimal n) }
 {
-    let digits = text.as_bytes();
-    let first = *digits.first()?;
-    if first == b'+' || (first == b'0' && digits.len() > 1) {
-        return None;
-    }
-    text.parse().ok()
+    u32::try_from(read_numeral(text)?).ok()
 }
 
 /// The number that a literal of `xsd:integer` spells in its canonical form, if it has at most 32

@@ -1,6 +1,7 @@
-use explain_cli::{Status, run};
+use super::running::{Answer, answer_over};
+use explain_cli::Status;
 use rdf_terms::OutOfMemory;
-use shelf_io::{MemoryShelf, MemorySink};
+use shelf_io::MemoryShelf;
 use std::alloc::Global;
 use std::test::Fail;
 
@@ -57,31 +58,6 @@ const THREE_MAILS: &str = "<http://example.org/a> <http://example.org/mail> \"1\
 const CLAIM_A: &str = "claim pair\nadd <http://example.org/a> <http://example.org/name> \"A\" .\n";
 
 const CLAIM_NONE: &str = "claim none\n";
-
-/// What a call left.
-#[derive(Drop)]
-struct Answer {
-    status: Status,
-    out: MemorySink,
-    notes: MemorySink,
-}
-
-/// Runs the words over the shelf, with so much room in `out`.
-fn answer_over(
-    alloc: Global,
-    words: &[&str],
-    shelf: &mut MemoryShelf,
-    room: usize,
-) -> Result<Answer, OutOfMemory> {
-    let mut owned = Vec::new(alloc);
-    for word in words {
-        owned.push(String::from_str(alloc, word)?)?;
-    }
-    let mut out = MemorySink::new(alloc, room)?;
-    let mut notes = MemorySink::new(alloc, 1000)?;
-    let status = run(alloc, owned.as_slice(), shelf, &mut out, &mut notes);
-    Ok(Answer { status, out, notes })
-}
 
 /// A shelf with three documents.
 fn shelf_of(

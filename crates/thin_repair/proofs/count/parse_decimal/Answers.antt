@@ -1,30 +1,15 @@
-use Rattle.std.proofs.Common.{◌≡◌, ◌<◌, ◌≤◌, ℕ, length, get_or, arith, ap, sym, ◌∙◌, ◌⊎◌, inl, inr}
-use Rattle.thin_repair.proofs.Decimals.{no_digits, no_plus, no_zero, parsed}
+use Rattle.std.proofs.Common.{◌≡◌, ◌≢◌, ◌<◌, ◌^◌, ℕ, List, Result, Ok, Err, MatchOption, decimal, sym, ap, ◌∙◌, arith}
+use Rattle.std.specs.Result.{OkIff, result_ok}
+use Rattle.thin_repair.proofs.Decimals.{small_decimal}
 use Rattle.thin_repair.proofs.count.parse_decimal.Goals as goal
-use Rattle.thin_repair.proofs.count.parse_decimal.Goals.{then-first-eq43-via-then-first-eq43, then-first-eq43-via-else-first-eq43+then-digits-gt1}
 
-pub returns-in_err-first : goal.returns-in_err-first
-returns-in_err-first c =
-    let h = c.in_err-first.ensures.item.3 in
-    let l = ap length c.as_bytes-digits.ensures.value in
-    rw c.from_residual.ensures (λ n lt. no_digits n c.args.text.now lt (omega arith))
-
-pub returns-then-first-eq43 : goal.returns-then-first-eq43
-returns-then-first-eq43 c n lt =
-    let h = c.in_ok-first.ensures.item.3 in
-    let l = ap length c.as_bytes-digits.ensures.value in
-    let first = ap (λ ds. get_or ds 0 0) (sym c.as_bytes-digits.ensures.value) ∙ sym (h.1 0) in
-    elim c.then-first-eq43.branch [
-      | then-first-eq43-via-then-first-eq43 w ↦ no_plus n c.args.text.now lt (first ∙ w.if-first-eq43.true)
-      | then-first-eq43-via-else-first-eq43+then-digits-gt1 w ↦ let long = w.if-digits-gt1.true.1 in no_zero n c.args.text.now lt (first ∙ w.if-digits-gt1.true.0) (omega arith)
-    ]
-
-no_more : {P : Type 0} (n : ℕ) → 0 < n → (P × (n ≤ 1)) ⊎ (¬ P) → P → n ≡ 1
-no_more n some (inl h) p = omega (arith, h.1)
-no_more n some (inr h) p = absurd (h p)
+-- a number that fits is the one that is spelled, and where it doesn't, no number that fits is
+narrowed : {E : Type 0} (text : List ℕ) (n : ℕ) (r : Result ℕ E) → OkIff r (n < 2 ^ 32) n → text ≡ decimal n
+    → MatchOption (result_ok r) ((m : ℕ) → m < 2 ^ 32 → text ≢ decimal m) (λ m. text ≡ decimal m)
+narrowed text n (Ok m) fits is = is ∙ ap decimal (sym fits.1)
+narrowed text n (Err e) large is = λ m small is_m.
+    large (let same : n ≡ m = small_decimal n m (omega arith) (sym is ∙ is_m) in omega arith)
 
 pub returns : goal.returns
 returns c =
-    let h = c.in_ok-first.ensures.item.3 in
-    let first = ap (λ ds. get_or ds 0 0) (sym c.as_bytes-digits.ensures.value) ∙ sym (h.1 0) in
-    rw c.ok.ensures.value (parsed c.args.text.now c.parse.result (λ e. c.if-first-eq43.false (sym first ∙ e)) (λ e. ap length (sym c.as_bytes-digits.ensures.value) ∙ no_more _ h.0 c.if-digits-gt1.either (sym first ∙ e)) c.parse.ensures.value.0)
+    rw c.ok.ensures.value (narrowed c.args.text.now c.in_ok-read_numeral.field-0 c.try_from.result c.try_from.ensures c.in_ok-read_numeral.ensures)

@@ -2,6 +2,7 @@ use Rattle.std.proofs.Common.{Ok, Err}
 use Rattle.std.proofs.lemmas.Result.{err_from_is_err_and}
 use Rattle.ntriples_io.proofs.LawfulText.{text_lawful}
 use Rattle.ntriples_io.proofs.Once.{one_answer}
+use Rattle.ntriples_io.proofs.ScopedText.{text_has_scope}
 use Rattle.ntriples_io.proofs.Steps.{opened, read_text, bad_end, refused_answer}
 use Rattle.ntriples_io.proofs.reader.NtReader.finish.Goals as goal
 
@@ -31,3 +32,7 @@ returns-clause-only c = λ xs h other m.
 pub returns-clause-lawful : goal.returns-clause-lawful
 returns-clause-lawful c = λ xs h.
     text_lawful xs c.args.self.scope c.in_ok-graph.graph (read_text _ xs _ _ _ _ _ _ _ _ (opened c.args.self xs c.in_default.is h) c.deref.ensures.value c.in_ok-read_into.ensures c.in_ok-graph.ensures)
+
+pub returns-clause-scope : goal.returns-clause-scope
+returns-clause-scope c = λ xs h.
+    text_has_scope xs c.args.self.scope c.in_ok-graph.graph (read_text _ xs _ _ _ _ _ _ _ _ (opened c.args.self xs c.in_default.is h) c.deref.ensures.value c.in_ok-read_into.ensures c.in_ok-graph.ensures)
