@@ -1,11 +1,12 @@
 #!/usr/bin/env python3
 """Times the built program on N-Triples data of a given number of triples.
 
-usage: bench/read_ntriples.py [TRIPLES..]    (20000 and 200000 where none is given)
+usage: bench/large_data.py [TRIPLES..]    (20000 and 200000 where none is given)
 
-For each number, the data is written once in sorted and once in shuffled order, and `explain` reads
-it. So many triples are more than it tries, so that it ends with status 7 just after reading; what is
-timed is reading, parsing and sorting. Prints the seconds and the peak memory of the process.
+For each number, the data is written once in sorted and once in shuffled order. `explain` reads it: so
+many triples are more than it tries, so that it ends with status 7 just after reading, and what is timed
+is reading, parsing and sorting. `apply` reads it with a document that deletes every third triple and
+adds as many, and writes the edited graph. Prints the seconds and the peak memory of each process.
 """
 import os
 import random
@@ -17,6 +18,7 @@ import time
 
 TOP = os.path.dirname(os.path.dirname(os.path.abspath(__file__)))
 PROGRAM = os.path.join(TOP, 'crates', 'shacl_explain', 'out', 'shacl_explain')
+DONE = 0
 TOO_MANY = 7
 
 
@@ -33,6 +35,14 @@ def lines(count):
         else:
             made.append(f'{person} <http://example.org/knows> <http://example.org/people/{(i * 7919) % count:07d}> .\n')
     return sorted(made)
+
+
+def repair(made):
+    """A document that deletes every third of the sorted triples, and adds as many, under another name."""
+    deletes = made[::3]
+    adds = [line.replace('/people/', '/persons/', 1) for line in deletes]
+    changes = [f'add {line}' for line in adds] + [f'delete {line}' for line in deletes]
+    return ''.join(['explanation 1\n', 'claim pair\n', *changes, 'chain\n', 'end\n'])
 
 
 def peak_of(argv):
@@ -62,16 +72,20 @@ def main():
         open(empty, 'w').close()
         for count in counts:
             made = lines(count)
+            claimed = os.path.join(folder, 'repair.txt')
+            with open(claimed, 'w', encoding='utf-8') as out:
+                out.write(repair(made))
             for order in ('sorted', 'shuffled'):
                 if order == 'shuffled':
                     random.Random(1).shuffle(made)
                 data = os.path.join(folder, 'data.nt')
                 with open(data, 'w', encoding='utf-8') as out:
                     out.writelines(made)
-                status, seconds, peak = peak_of([PROGRAM, 'explain', empty, data, empty])
                 size = os.path.getsize(data) / 2 ** 20
-                note = '' if status == TOO_MANY else f', UNEXPECTED STATUS {status}'
-                print(f'{count} triples, {size:.1f} MiB, {order}: {seconds:.2f} s, {peak:.0f} MiB{note}')
+                for words, wanted in ((['explain', empty, data, empty], TOO_MANY), (['apply', data, claimed], DONE)):
+                    status, seconds, peak = peak_of([PROGRAM, *words])
+                    note = '' if status == wanted else f', UNEXPECTED STATUS {status}'
+                    print(f'{words[0]}, {count} triples, {size:.1f} MiB, {order}: {seconds:.2f} s, {peak:.0f} MiB{note}')
 
 
 if __name__ == '__main__':
