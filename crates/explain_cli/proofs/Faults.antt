@@ -1,45 +1,21 @@
 -- What the reading of one document says of the input, whether or not the shelf tells what it holds.
-use Rattle.std.proofs.Common.{◌≡◌, ℕ, ◌≤◌, List, [], ◌∷◌, ◌++◌, None, Some, Result, Ok, Err, IfOk, IfErr, sym, subst, arith}
+use Rattle.std.proofs.Common.{◌≡◌, ℕ, ◌≤◌, List, [], ◌∷◌, ◌++◌, None, Some, Result, Ok, IfOk, IfErr, sym, subst, arith}
 use Rattle.std.proofs.lemmas.List.Elements.{All-nil, All-push}
 use Rattle.std.proofs.lemmas.Result.{IfOk-at_ok, IfErr-at_err}
 use Rattle.shelf_io.specs.Held.{Held}
-use Rattle.shelf_io.specs.Documents.{ReadsWhole, IsShort}
 use Rattle.explain_cli.specs.declared.role.Role.{Role}
 use Rattle.explain_cli.specs.declared.role.Reason.{Reason}
 use Rattle.explain_cli.specs.declared.documents.Blame.{Blame}
 use Rattle.explain_cli.specs.declared.documents.Fault.{Fault}
 use Rattle.explain_cli.specs.declared.documents.Fault.TheVariants.{Unread, Refused, OutOfMemory}
 use Rattle.explain_cli.specs.Input.{Named, IsInOrder, IsFault, HoldsInOrder, AreInOrder}
-use Rattle.explain_cli.specs.Reading.{HoldsIn, IfShort, IsParseFault, IsFaultFor, IsBlame, IsBlamedFor}
+use Rattle.explain_cli.specs.Reading.{HoldsIn, IsFaultFor, IsBlame, IsBlamedFor}
 use Rattle.explain_cli.proofs.Ready.{held_as}
 
--- the bytes that were read are so, so what is held is
-parsed : (P : List ℕ → Type 0) (held : Held) (name bytes : List ℕ) → ReadsWhole held name bytes → IsShort held name → IfShort P bytes → HoldsIn P held name
-parsed P None name bytes reads short holds = tt
-parsed P (Some held) name bytes reads short holds = rw reads (holds (rw reads at short))
-
-pub parsed_value : {A : Type 0} (P : A → List ℕ → Type 0) (held : Held) (name bytes : List ℕ) (r : Result A Fault) → ReadsWhole held name bytes → IsShort held name → IfOk r (λ v. IfShort (P v) bytes) → IfOk r (λ v. HoldsIn (P v) held name)
-parsed_value P held name bytes (Ok v) reads short holds = parsed (P v) held name bytes reads short holds
-parsed_value P held name bytes (Err fault) reads short holds = tt
-
-parse_fault : (R : Reason → List ℕ → Type 0) (held : Held) (name bytes : List ℕ) (before after : ℕ) (fault : Fault) → ReadsWhole held name bytes → IsShort held name → IsParseFault R bytes fault → IsFaultFor R held name before after fault
-parse_fault R held name bytes before after Unread reads short fault = absurd fault
-parse_fault R held name bytes before after (Refused reason) reads short fault = parsed (R reason) held name bytes reads short fault
-parse_fault R held name bytes before after OutOfMemory reads short fault = tt
-
-pub parsed_fault : {A : Type 0} (R : Reason → List ℕ → Type 0) (held : Held) (name bytes : List ℕ) (before after : ℕ) (r : Result A Fault) → ReadsWhole held name bytes → IsShort held name → IfErr r (λ fault. IsParseFault R bytes fault) → IfErr r (λ fault. IsFaultFor R held name before after fault)
-parsed_fault R held name bytes before after (Ok v) reads short fault = tt
-parsed_fault R held name bytes before after (Err f) reads short fault = parse_fault R held name bytes before after f reads short fault
-
--- a refusal for one reason is also one for what follows from it
+-- what holds of the bytes that are held, weakened, whether or not the shelf tells
 held_in_as : (P Q : List ℕ → Type 0) → ((bytes : List ℕ) → P bytes → Q bytes) → (held : Held) (name : List ℕ) → HoldsIn P held name → HoldsIn Q held name
 held_in_as P Q weaker None name holds = tt
 held_in_as P Q weaker (Some held) name holds = held_as P Q weaker (held name) holds
-
-pub fault_as : (R S : Reason → List ℕ → Type 0) → ((reason : Reason) (bytes : List ℕ) → R reason bytes → S reason bytes) → (held : Held) (name : List ℕ) (before after : ℕ) (fault : Fault) → IsFaultFor R held name before after fault → IsFaultFor S held name before after fault
-fault_as R S weaker held name before after Unread fault = fault
-fault_as R S weaker held name before after (Refused reason) fault = held_in_as (R reason) (S reason) (weaker reason) held name fault
-fault_as R S weaker held name before after OutOfMemory fault = tt
 
 -- a count that rose from a later moment on rose from an earlier one on
 earlier_fault : (R : Reason → List ℕ → Type 0) (held : Held) (name : List ℕ) (before between after : ℕ) (fault : Fault) → before ≤ between → IsFaultFor R held name between after fault → IsFaultFor R held name before after fault

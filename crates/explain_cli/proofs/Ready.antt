@@ -1,4 +1,4 @@
--- What a command answers where its input is in order: then the input is not refused.
+-- An input that is in order is not refused.
 use Rattle.std.proofs.Common.{◌≡◌, ℕ, inl, inr, List, [], ◌∷◌, Option, None, Some, sym, subst}
 use Rattle.std.specs.List.{All}
 use Rattle.std.proofs.lemmas.List.Elements.{All-nil, All-cons}
@@ -17,7 +17,7 @@ use Rattle.explain_cli.specs.Causes.{Refuses}
 use Rattle.explain_cli.specs.Input.{Contents, Named, documents_of, Names, Graphs, ApplyNames, IsGraph, IsClaim, IsInOrder, Holds, HoldsInOrder, AreHeld, IsInput, AreApplied, IsPairFault}
 use Rattle.explain_cli.proofs.OneDocument.{one_graph, one_claim, documents_unrefused}
 
--- bytes that are held are also what follows from it
+-- what holds of the bytes that are held, weakened
 pub held_as : (P Q : List ℕ → Type 0) → ((bytes : List ℕ) → P bytes → Q bytes) → (held : Option (List ℕ)) → Holds P held → Holds Q held
 held_as P Q weaker None holds = holds
 held_as P Q weaker (Some bytes) holds = weaker bytes holds
@@ -58,7 +58,7 @@ pair_unrefused g claim made TooLong edits fault = fault
 pair_unrefused g claim made NotReadYet edits fault = fault
 pair_unrefused g claim made (Line number) edits fault = fault
 
--- the input of a command is in order
+-- the claim can be applied to the data
 pub record IsEdited (names : ApplyNames) (held : Contents) : Type 0 where
   pub present : Graph
   pub claim : Claim
@@ -66,6 +66,7 @@ pub record IsEdited (names : ApplyNames) (held : Contents) : Type 0 where
   pub made : Graph
   pub edits : Edits present claim made
 
+-- the input of a command is in order
 abbrev pub IsReady : Command → Contents → Type 0
 IsReady (Explain s p o) held = (g : Graphs) × IsInput (record { shapes = s; present = p; offered = o }) held g
 IsReady (Apply p d) held = IsEdited (record { present = p; document = d }) held

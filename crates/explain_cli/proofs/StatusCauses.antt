@@ -1,5 +1,5 @@
 -- When each status comes, by how the call ends.
-use Rattle.std.proofs.Common.{◌≡◌, ℕ, ◌<◌, ◌≤◌, ◌⊎◌, inl, inr, List, None, Some, Result, Ok, Err, IsErr, refl, sym, ap, ◌∙◌, subst, arith}
+use Rattle.std.proofs.Common.{◌≡◌, ◌≢◌, ℕ, ◌<◌, ◌≤◌, ◌⊎◌, inl, inr, false, List, None, Some, Result, Ok, Err, IsErr, is_err, OnOk, refl, sym, ap, ◌∙◌, subst, arith}
 use Rattle.std.specs.List.{All}
 use Rattle.rdf_terms.specs.Graph.{without}
 use Rattle.thin_repair.specs.Answer.{candidate_count}
@@ -14,7 +14,7 @@ use Rattle.explain_cli.specs.declared.words.Command.TheVariants.{Explain, Apply}
 use Rattle.explain_cli.specs.Answer.{Texts, ClaimsPair, Answers, ExplainAnswers, ApplyAnswers, CommandAnswers, MayExplain, MayApply, MayAnswer, CommandAnswersIn}
 use Rattle.explain_cli.specs.Causes.{IsCutShort, IsExplained, IsApplied, IsAnswered, IsUndisturbed, Refuses, IsTooMuch, HasNoPair, CommandCauses, InputCauses, Causes}
 use Rattle.explain_cli.specs.Input.{Contents, Named, documents_of, Names, Graphs, ApplyNames, IsInput}
-use Rattle.explain_cli.specs.Outcome.{ShelfTold, SinkTold, MeetsReadFault, Ends, Breaks, Outcome}
+use Rattle.explain_cli.specs.Outcome.{ShelfTold, SinkTold, Means, MeetsReadFault, Wrote, Ends, Breaks, Outcome}
 use Rattle.explain_cli.specs.Words.{words_of}
 use Rattle.explain_cli.proofs.OneDocument.{All-middle}
 use Rattle.explain_cli.proofs.Ready.{one_input, IsEdited, IsReady, ready_unrefused}
@@ -85,6 +85,45 @@ unfolding Shows
 may_answer command None t answer = answer
 may_answer command (Some held) t answer =
     elim (shows command held t answer) [ inl refused ↦ may_refuse command t.status refused.0 | inr ready ↦ ready.0 ]
+
+-- ---- what was meant stands in the sinks
+
+pub taken : {T E : Type 0} {P : Type 0} (r : Result T E) → is_err r ≡ false → OnOk r P → P
+taken (Ok x) e holds = holds
+taken (Err x) e holds = absurd cc
+
+never_write : (command : Command) → MayAnswer command Write → ⊥
+never_write (Explain s p o) may = may
+never_write (Apply p d) may = may
+
+never_memory : (command : Command) → MayAnswer command Memory → ⊥
+never_memory (Explain s p o) may = may
+never_memory (Apply p d) may = may
+
+never_spent : (command : Command) → MayAnswer command Spent → ⊥
+never_spent (Explain s p o) may = may
+never_spent (Apply p d) may = may
+
+-- a status is not meant if it is neither that of wrong words nor that of a read fault, and no command answers it
+not_meant : (status : Status) → status ≢ Usage → status ≢ Read → ((command : Command) → MayAnswer command status → ⊥) → (r : Result Command ℕ) (shelf : ShelfTold) (t : Texts) → Answers r shelf.held t ⊎ MeetsReadFault r shelf t → t.status ≡ status → ⊥
+not_meant status not_usage not_read never (Err position) shelf t (inl answer) e = not_usage (sym e ∙ ap (λ (u : Texts). u.status) answer)
+not_meant status not_usage not_read never (Err position) shelf t (inr fault) e = fault
+not_meant status not_usage not_read never (Ok command) shelf t (inl answer) e = never command (subst (MayAnswer command) e (may_answer command shelf.held t answer))
+not_meant status not_usage not_read never (Ok command) shelf t (inr fault) e = not_read (sym e ∙ ap (λ (u : Texts). u.status) fault.texts)
+
+stands_at : (words : List (List ℕ)) (shelf : ShelfTold) (out notes : SinkTold) (t : Texts) (status : Status) → t.status ≡ status → Means words shelf t → Wrote t out notes → Outcome words shelf out notes status
+stands_at words shelf out notes t Done e meant wrote = record { texts = t; status_is = e; meant = meant; wrote = wrote }
+stands_at words shelf out notes t No e meant wrote = record { texts = t; status_is = e; meant = meant; wrote = wrote }
+stands_at words shelf out notes t Usage e meant wrote = record { texts = t; status_is = e; meant = meant; wrote = wrote }
+stands_at words shelf out notes t Input e meant wrote = record { texts = t; status_is = e; meant = meant; wrote = wrote }
+stands_at words shelf out notes t Read e meant wrote = record { texts = t; status_is = e; meant = meant; wrote = wrote }
+stands_at words shelf out notes t Write e meant wrote = absurd (not_meant Write (λ d. cc) (λ d. cc) never_write (words_of words) shelf t meant e)
+stands_at words shelf out notes t Memory e meant wrote = absurd (not_meant Memory (λ d. cc) (λ d. cc) never_memory (words_of words) shelf t meant e)
+stands_at words shelf out notes t TooMany e meant wrote = record { texts = t; status_is = e; meant = meant; wrote = wrote }
+stands_at words shelf out notes t Spent e meant wrote = absurd (not_meant Spent (λ d. cc) (λ d. cc) never_spent (words_of words) shelf t meant e)
+
+pub stands : (words : List (List ℕ)) (shelf : ShelfTold) (out notes : SinkTold) (t : Texts) → Means words shelf t → Wrote t out notes → Outcome words shelf out notes t.status
+stands words shelf out notes t meant wrote = stands_at words shelf out notes t t.status refl meant wrote
 
 -- ---- how a call ends
 

@@ -144,10 +144,7 @@ fn explains_small_documents(rt: HostRuntime) -> Result<(), Fail> {
             delete_mail,
         ),
     ] {
-        let answer = explained(alloc, shapes, data, offered)?;
-        assert_eq!(rt; answer.status, status, "{case}");
-        assert_eq!(rt; answer.out.bytes(), out.as_bytes(), "{case}");
-        assert_eq!(rt; answer.notes.bytes(), b"".as_slice(), "{case}");
+        explained(alloc, shapes, data, offered)?.expect(&rt, case, status, out, "");
     }
     Ok(())
 }
@@ -183,14 +180,11 @@ fn refuses_wrong_words(rt: HostRuntime) -> Result<(), Fail> {
     ] {
         let mut shelf = shelf_of(alloc, NAME_SHAPES, "", NAME_A)?;
         let answer = answer_over(alloc, &words[..count], &mut shelf, 1000)?;
-        assert_eq!(rt; answer.status, Status::Usage, "{count} words");
-        assert_eq!(rt; answer.out.bytes(), b"".as_slice(), "{count} words");
-        assert_eq!(rt; answer.notes.bytes(), notes.as_bytes(), "{count} words");
+        answer.expect(&rt, "a wrong number of words", Status::Usage, "", notes);
     }
     let mut shelf = shelf_of(alloc, NAME_SHAPES, "", NAME_A)?;
     let answer = answer_over(alloc, &["validate", "s.nt", "d.nt"], &mut shelf, 1000)?;
-    assert_eq!(rt; answer.status, Status::Usage);
-    assert_eq!(rt; answer.notes.bytes(), b"usage: word 0\n".as_slice());
+    answer.expect(&rt, "no command", Status::Usage, "", "usage: word 0\n");
     Ok(())
 }
 
@@ -229,10 +223,7 @@ fn refuses_documents(rt: HostRuntime) -> Result<(), Fail> {
         ),
         (NAME_SHAPES, thirteen, "", Status::TooMany, "too many: 13\n"),
     ] {
-        let answer = explained(alloc, shapes, data, offered)?;
-        assert_eq!(rt; answer.status, status, "{notes}");
-        assert_eq!(rt; answer.out.bytes(), b"".as_slice(), "{notes}");
-        assert_eq!(rt; answer.notes.bytes(), notes.as_bytes(), "{notes}");
+        explained(alloc, shapes, data, offered)?.expect(&rt, notes, status, "", notes);
     }
     Ok(())
 }
@@ -244,28 +235,20 @@ const BAD_OFFERED: &str = "input: OFFERED: line 2\n";
 #[test]
 fn refuses_a_turtle_name_and_a_long_document(rt: HostRuntime) -> Result<(), Fail> {
     let alloc = rt.alloc();
+    let words = ["explain", "s.nt", "d.ttl", "o.nt"];
     let mut shelf = shelf_of(alloc, NAME_SHAPES, "", NAME_A)?;
     shelf.hold("d.ttl", b"")?;
-    let answer = answer_over(
-        alloc,
-        &["explain", "s.nt", "d.ttl", "o.nt"],
-        &mut shelf,
-        1000,
-    )?;
-    assert_eq!(rt; answer.status, Status::Input);
-    assert_eq!(rt;
-        answer.notes.bytes(),
-        b"input: DATA: not read yet\n".as_slice()
+    let answer = answer_over(alloc, &words, &mut shelf, 1000)?;
+    answer.expect(
+        &rt,
+        "Turtle",
+        Status::Input,
+        "",
+        "input: DATA: not read yet\n",
     );
     shelf.hold_repeated("d.ttl", b'\n', (1 << 30) + 1)?;
-    let answer = answer_over(
-        alloc,
-        &["explain", "s.nt", "d.ttl", "o.nt"],
-        &mut shelf,
-        1000,
-    )?;
-    assert_eq!(rt; answer.status, Status::Input);
-    assert_eq!(rt; answer.notes.bytes(), b"input: DATA: too long\n".as_slice());
+    let answer = answer_over(alloc, &words, &mut shelf, 1000)?;
+    answer.expect(&rt, "long", Status::Input, "", "input: DATA: too long\n");
     Ok(())
 }
 
@@ -274,29 +257,33 @@ fn tells_faults_of_the_devices(rt: HostRuntime) -> Result<(), Fail> {
     let alloc = rt.alloc();
     let words = ["explain", "s.nt", "d.nt", "o.nt"];
 
-    // The second pull of the data fails.
     let mut shelf = shelf_of(alloc, NAME_SHAPES, "", NAME_A)?;
     shelf.hold("d.nt", b"")?;
     shelf.fail_at("d.nt", 2)?;
     let answer = answer_over(alloc, &words, &mut shelf, 1000)?;
-    assert_eq!(rt; answer.status, Status::Read);
-    assert_eq!(rt; answer.out.bytes(), b"".as_slice());
-    assert_eq!(rt; answer.notes.bytes(), b"read: DATA\n".as_slice());
+    answer.expect(
+        &rt,
+        "the second pull fails",
+        Status::Read,
+        "",
+        "read: DATA\n",
+    );
 
-    // The offered document is missing.
     let mut shelf = MemoryShelf::new(alloc);
     shelf.hold("s.nt", b"")?;
     shelf.hold("d.nt", b"")?;
     let answer = answer_over(alloc, &words, &mut shelf, 1000)?;
-    assert_eq!(rt; answer.status, Status::Read);
-    assert_eq!(rt; answer.notes.bytes(), b"read: OFFERED\n".as_slice());
+    answer.expect(
+        &rt,
+        "no offers are held",
+        Status::Read,
+        "",
+        "read: OFFERED\n",
+    );
 
-    // Ten bytes of the claim fit.
     let mut shelf = shelf_of(alloc, NAME_SHAPES, "", NAME_A)?;
     let answer = answer_over(alloc, &words, &mut shelf, 10)?;
-    assert_eq!(rt; answer.status, Status::Write);
-    assert_eq!(rt; answer.out.bytes(), b"claim pair".as_slice());
-    assert_eq!(rt; answer.notes.bytes(), b"".as_slice());
+    answer.expect(&rt, "ten bytes fit", Status::Write, "claim pair", "");
     Ok(())
 }
 
@@ -405,9 +392,11 @@ fn refuses_shapes_that_are_not_thin(rt: HostRuntime) -> Result<(), Fail> {
         ),
     ] {
         let shapes = shapes_of(alloc, rows)?;
-        let answer = explained(alloc, shapes.as_str(), "", "")?;
-        assert_eq!(rt; answer.status, status, "{case}");
-        assert_eq!(rt; answer.notes.bytes(), notes.as_bytes(), "{case}");
+        let out = match status {
+            Status::Done => "claim pair\n",
+            _ => "",
+        };
+        explained(alloc, shapes.as_str(), "", "")?.expect(&rt, case, status, out, notes);
     }
     Ok(())
 }
@@ -428,7 +417,6 @@ fn undoing_one_change_at_a_time_is_not_enough(rt: HostRuntime) -> Result<(), Fai
 <http://example.org/a> <http://example.org/mail> \"4\" .
 ";
     let answer = explained(alloc, shapes.as_str(), data, offered)?;
-    assert_eq!(rt; answer.status, Status::Done);
-    assert_eq!(rt; answer.out.bytes(), b"claim pair\n".as_slice());
+    answer.expect(&rt, "two are there", Status::Done, "claim pair\n", "");
     Ok(())
 }

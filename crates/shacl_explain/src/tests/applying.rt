@@ -109,9 +109,7 @@ fn writes_the_edited_graph(rt: HostRuntime) -> Result<(), Fail> {
         ),
     ] {
         let answer = applied(alloc, data, document.as_bytes())?;
-        assert_eq!(rt; answer.status, Status::Done, "{case}");
-        assert_eq!(rt; answer.out.bytes(), out.as_bytes(), "{case}");
-        assert_eq!(rt; answer.notes.bytes(), b"".as_slice(), "{case}");
+        answer.expect(&rt, case, Status::Done, out, "");
     }
     Ok(())
 }
@@ -131,9 +129,7 @@ fn refuses_what_can_not_be_applied(rt: HostRuntime) -> Result<(), Fail> {
         ("a", "a", "input: DATA: line 1\n"),
     ] {
         let answer = applied(alloc, data, document.as_bytes())?;
-        assert_eq!(rt; answer.status, Status::Input, "{notes}");
-        assert_eq!(rt; answer.out.bytes(), b"".as_slice(), "{notes}");
-        assert_eq!(rt; answer.notes.bytes(), notes.as_bytes(), "{notes}");
+        answer.expect(&rt, notes, Status::Input, "", notes);
     }
     Ok(())
 }
@@ -170,9 +166,7 @@ fn names_the_first_line_that_can_not_stand_there(rt: HostRuntime) -> Result<(), 
     for &(document, line) in BENT {
         let notes = format!(in alloc; "input: DOCUMENT: line {line}\n")?;
         let answer = applied(alloc, "", document.as_bytes())?;
-        assert_eq!(rt; answer.status, Status::Input, "{document}");
-        assert_eq!(rt; answer.out.bytes(), b"".as_slice(), "{document}");
-        assert_eq!(rt; answer.notes.bytes(), notes.as_bytes(), "{document}");
+        answer.expect(&rt, document, Status::Input, "", notes.as_str());
     }
     Ok(())
 }
@@ -237,12 +231,15 @@ fn takes_the_lines_of_a_pair(rt: HostRuntime) -> Result<(), Fail> {
         let notes = format!(in alloc; "input: DOCUMENT: line {number}\n")?;
         let document = format!(in alloc; "explanation 1\nclaim pair\n{lines}end\n")?;
         let answer = applied(alloc, "", document.as_bytes())?;
-        assert_eq!(rt; answer.notes.bytes(), notes.as_bytes(), "{lines}");
+        answer.expect(&rt, lines, Status::Input, "", notes.as_str());
     }
     for &lines in RIGHT_LINES {
         let document = format!(in alloc; "explanation 1\nclaim pair\n{lines}end\n")?;
-        let answer = applied(alloc, "", document.as_bytes())?;
-        assert_eq!(rt; answer.status, Status::Done, "{lines}");
+        assert_eq!(rt;
+            applied(alloc, "", document.as_bytes())?.status,
+            Status::Done,
+            "{lines}"
+        );
     }
     Ok(())
 }
@@ -250,14 +247,14 @@ fn takes_the_lines_of_a_pair(rt: HostRuntime) -> Result<(), Fail> {
 #[test]
 fn bytes_that_are_no_characters_are_no_line(rt: HostRuntime) -> Result<(), Fail> {
     let alloc = rt.alloc();
-    let answer = applied(
-        alloc,
+    let document = b"explanation 1\nclaim pair\nadd <urn:a> <urn:p> \"\xff\" .\nend\n";
+    let answer = applied(alloc, "", document)?;
+    answer.expect(
+        &rt,
+        "no UTF-8",
+        Status::Input,
         "",
-        b"explanation 1\nclaim pair\nadd <urn:a> <urn:p> \"\xff\" .\nend\n",
-    )?;
-    assert_eq!(rt;
-        answer.notes.bytes(),
-        b"input: DOCUMENT: line 3\n".as_slice()
+        "input: DOCUMENT: line 3\n",
     );
     Ok(())
 }
@@ -266,40 +263,39 @@ fn bytes_that_are_no_characters_are_no_line(rt: HostRuntime) -> Result<(), Fail>
 fn applying_tells_words_and_faults(rt: HostRuntime) -> Result<(), Fail> {
     let alloc = rt.alloc();
     let words = ["apply", "d.nt", "e.txt", "--conflicts"];
+    let mut shelf = MemoryShelf::new(alloc);
     for (count, notes) in [
         (1usize, "usage: word 1\n"),
         (2, "usage: word 2\n"),
         (4, "usage: word 3\n"),
     ] {
-        let mut shelf = MemoryShelf::new(alloc);
         let answer = answer_over(alloc, &words[..count], &mut shelf, 1000)?;
-        assert_eq!(rt; answer.status, Status::Usage, "{notes}");
-        assert_eq!(rt; answer.notes.bytes(), notes.as_bytes(), "{notes}");
+        answer.expect(&rt, "a wrong number of words", Status::Usage, "", notes);
     }
 
-    // The document is missing.
-    let mut shelf = MemoryShelf::new(alloc);
     shelf.hold("d.nt", b"")?;
     let answer = answer_over(alloc, &words[..3], &mut shelf, 1000)?;
-    assert_eq!(rt; answer.status, Status::Read);
-    assert_eq!(rt; answer.out.bytes(), b"".as_slice());
-    assert_eq!(rt; answer.notes.bytes(), b"read: DOCUMENT\n".as_slice());
-
-    // It is too long.
-    shelf.hold_repeated("e.txt", b'\n', (1 << 30) + 1)?;
-    let answer = answer_over(alloc, &words[..3], &mut shelf, 1000)?;
-    assert_eq!(rt; answer.status, Status::Input);
-    assert_eq!(rt;
-        answer.notes.bytes(),
-        b"input: DOCUMENT: too long\n".as_slice()
+    answer.expect(
+        &rt,
+        "no document is held",
+        Status::Read,
+        "",
+        "read: DOCUMENT\n",
     );
 
-    // Four bytes of the edited graph fit.
+    shelf.hold_repeated("e.txt", b'\n', (1 << 30) + 1)?;
+    let answer = answer_over(alloc, &words[..3], &mut shelf, 1000)?;
+    answer.expect(
+        &rt,
+        "long",
+        Status::Input,
+        "",
+        "input: DOCUMENT: too long\n",
+    );
+
     shelf.hold("e.txt", ADDED_NAME.as_bytes())?;
     let answer = answer_over(alloc, &words[..3], &mut shelf, 4)?;
-    assert_eq!(rt; answer.status, Status::Write);
-    assert_eq!(rt; answer.out.bytes(), b"<htt".as_slice());
-    assert_eq!(rt; answer.notes.bytes(), b"".as_slice());
+    answer.expect(&rt, "four bytes fit", Status::Write, "<htt", "");
     Ok(())
 }
 

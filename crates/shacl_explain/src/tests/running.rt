@@ -2,6 +2,7 @@ use explain_cli::{Status, run};
 use rdf_terms::OutOfMemory;
 use shelf_io::{MemoryShelf, MemorySink};
 use std::alloc::Global;
+use std::process::Abort;
 
 /// What a call left.
 #[derive(Drop)]
@@ -26,4 +27,13 @@ pub fn answer_over(
     let mut notes = MemorySink::new(alloc, 1000)?;
     let status = run(alloc, owned.as_slice(), shelf, &mut out, &mut notes);
     Ok(Answer { status, out, notes })
+}
+
+impl Answer {
+    /// The call ended with the status, and wrote these texts.
+    pub fn expect(&self, rt: &impl Abort, case: &str, status: Status, out: &str, notes: &str) {
+        assert_eq!(rt; self.status, status, "{case}");
+        assert_eq!(rt; self.out.bytes(), out.as_bytes(), "{case}");
+        assert_eq!(rt; self.notes.bytes(), notes.as_bytes(), "{case}");
+    }
 }
