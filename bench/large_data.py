@@ -1,16 +1,21 @@
 #!/usr/bin/env python3
-"""Times the built program on N-Triples data of a given number of triples.
+"""Times the built program on large N-Triples data.
 
-usage: bench/large_data.py [TRIPLES..]    (20000 and 200000 where none is given)
+usage: bench/large_data.py [people TRIPLES..] [customers COPIES..]
+       (people 20000 200000 customers 1000 10000 where no word is given)
 
-For each number, the data is written once in sorted and once in shuffled order. `explain` reads it: so
-many triples are more than it tries, so that it ends with status 7 just after reading, and what is timed
-is reading, parsing and sorting. `apply` reads it with a document that deletes every third triple and
-adds as many, and writes the edited graph. Prints the seconds and the peak memory of each process.
+`people` are triples of people in that number; `customers` are the data of a small shop with 40 triples,
+copied so many times under names of their own. Each is written once in sorted and once in shuffled
+order. `explain` reads it: so many triples are more than it tries, so that it ends with status 7 just
+after reading, and what is timed is reading, parsing and sorting. `apply` reads it with a document that
+deletes every third triple and adds as many, and writes the edited graph. Where `rapper` (Debian's
+raptor2-utils) is installed, it reads the same file in the same run and counts its triples; it doesn't
+sort them. Prints the seconds and the peak memory of each process, the least of three runs.
 """
 import os
 import random
 import resource
+import shutil
 import subprocess
 import sys
 import tempfile
@@ -37,16 +42,59 @@ def lines(count):
     return sorted(made)
 
 
+CUSTOMERS = """
+c1 a Customer ; name "Ada" ; mail "ada@x" ; label "Ada"@en ; country "AT" ; manager e1 .
+c2 a Customer ; mail "bo@x" , "bo2@x" ; label "Bo"@en ; country "DE" ; manager e1 .
+c3 a Customer ; name "Cy" ; mail "cy@x" ; label "Cy"@en , "Zy"@en ; country "CH" ; manager e2 .
+c4 a Customer ; name "Di" ; mail "di@x" ; label "Di"@de ; country "FR" ; manager e2 .
+e1 a Employee ; age 41 ; name "Eve" .
+e2 a Employee ; age 17 ; name "Flo" .
+o1 a Order ; buyer c1 ; total 3 .
+o2 a Order ; buyer c2 ; total 5 .
+o3 a Order ; buyer c4 ; total 2 .
+"""
+PREDICATES = {'a': '<http://www.w3.org/1999/02/22-rdf-syntax-ns#type>', 'label': '<http://www.w3.org/2000/01/rdf-schema#label>'}
+CLASSES = ('Customer', 'Employee', 'Order')
+
+
+def shop(number):
+    """The lines of the shop, its customers, employees and orders named for this copy."""
+    def term(word):
+        if word.startswith('"'):
+            return word
+        if word.isdigit():
+            return f'"{word}"^^<http://www.w3.org/2001/XMLSchema#integer>'
+        return f'<http://example.org/{word}>' if word in CLASSES else f'<http://example.org/{word}-{number}>'
+
+    for line in CUSTOMERS.strip().splitlines():
+        subject, rest = line.removesuffix(' .').split(' ', 1)
+        for part in rest.split(' ; '):
+            predicate, objects = part.split(' ', 1)
+            for object_ in objects.split(' , '):
+                yield f'{term(subject)} {PREDICATES.get(predicate, f"<http://example.org/{predicate}>")} {term(object_)} .\n'
+
+
+def customers(copies):
+    """The shop, so many times."""
+    return sorted(line for number in range(copies) for line in shop(number))
+
+
 def repair(made):
     """A document that deletes every third of the sorted triples, and adds as many, under another name."""
     deletes = made[::3]
-    adds = [line.replace('/people/', '/persons/', 1) for line in deletes]
+    adds = [line.replace('<http://example.org/', '<http://example.org/new/', 1) for line in deletes]
     changes = [f'add {line}' for line in adds] + [f'delete {line}' for line in deletes]
     return ''.join(['explanation 1\n', 'claim pair\n', *changes, 'chain\n', 'end\n'])
 
 
+def least_of(argv, runs=3):
+    """The status, and the least seconds and peak memory of some runs."""
+    measured = [peak_of(argv) for _ in range(runs)]
+    return measured[0][0], min(m[1] for m in measured), min(m[2] for m in measured)
+
+
 def peak_of(argv):
-    """Seconds and peak memory in MiB of one run, measured in a child that only waits for it."""
+    """Status, seconds and peak memory in MiB of one run, measured in a child that only waits for it."""
     reader, writer = os.pipe()
     child = os.fork()
     if child == 0:
@@ -63,29 +111,45 @@ def peak_of(argv):
     return int(status), float(seconds), float(peak)
 
 
+def parse_words(words):
+    """The kinds and numbers of the command line."""
+    kinds = {'people': lines, 'customers': customers}
+    kind = None
+    for word in words or 'people 20000 200000 customers 1000 10000'.split():
+        if word in kinds:
+            kind = word
+        elif kind and word.isdigit():
+            yield kind, kinds[kind], int(word)
+        else:
+            sys.exit(__doc__)
+
+
 def main():
-    counts = [int(word) for word in sys.argv[1:]] or [20000, 200000]
+    work = list(parse_words(sys.argv[1:]))
     if not os.path.exists(PROGRAM):
         sys.exit(f'{PROGRAM} is not built: run ./shacl-explain once')
     with tempfile.TemporaryDirectory() as folder:
-        empty = os.path.join(folder, 'empty.nt')
+        empty, data, claimed = (os.path.join(folder, name) for name in ('empty.nt', 'data.nt', 'repair.txt'))
         open(empty, 'w').close()
-        for count in counts:
-            made = lines(count)
-            claimed = os.path.join(folder, 'repair.txt')
+        for kind, make, count in work:
+            made = make(count)
             with open(claimed, 'w', encoding='utf-8') as out:
                 out.write(repair(made))
             for order in ('sorted', 'shuffled'):
                 if order == 'shuffled':
                     random.Random(1).shuffle(made)
-                data = os.path.join(folder, 'data.nt')
                 with open(data, 'w', encoding='utf-8') as out:
                     out.writelines(made)
                 size = os.path.getsize(data) / 2 ** 20
-                for words, wanted in ((['explain', empty, data, empty], TOO_MANY), (['apply', data, claimed], DONE)):
-                    status, seconds, peak = peak_of([PROGRAM, *words])
+                runs = [('explain', [PROGRAM, 'explain', empty, data, empty], TOO_MANY),
+                        ('apply', [PROGRAM, 'apply', data, claimed], DONE)]
+                if shutil.which('rapper'):
+                    runs.append(('rapper', ['rapper', '-q', '-c', '-i', 'ntriples', data], DONE))
+                for name, argv, wanted in runs:
+                    status, seconds, peak = least_of(argv)
                     note = '' if status == wanted else f', UNEXPECTED STATUS {status}'
-                    print(f'{words[0]}, {count} triples, {size:.1f} MiB, {order}: {seconds:.2f} s, {peak:.0f} MiB{note}')
+                    print(f'{kind} {count}, {len(made)} triples, {size:.1f} MiB, {order}: '
+                          f'{name} {seconds:.2f} s, {peak:.0f} MiB{note}', flush=True)
 
 
 if __name__ == '__main__':

@@ -1,6 +1,5 @@
-pub mod Answered
-pub mod Faults
+pub mod Answers
+pub mod Endings
 pub mod Lines
-pub mod OneDocument
 pub mod Ready
 pub mod StatusCauses

@@ -1,136 +1,120 @@
--- The right answers to the words, over what is held under the names.
-use Rattle.std.specs.Prelude.{◌≡◌, ℕ, ◌<◌, ◌≤◌, List, [], None, Some, Result, Ok, Err}
+-- The right answers to the words, over what is held under the names. A new command adds a line to `statuses_of`
+-- and one to `IsAnswer`, with the records that the latter names.
+use Rattle.std.specs.Prelude.{◌≡◌, ℕ, ◌<◌, ◌≤◌, ◌⊎◌, List, [], ◌∷◌, None, Some, Result, Ok, Err}
 use Rattle.rdf_terms.specs.Graph.{Graph, without}
 use Rattle.rdf_terms.specs.declared.term.Scope.TheVariants.{Data as OfData}
 use Rattle.ntriples_io.specs.CanonicalText.{graph_text}
 use Rattle.ntriples_io.specs.Text.{NtText}
 use Rattle.thin_repair.specs.Answer.{candidate_count}
 use Rattle.thin_repair.specs.Conformance.{Conforms}
-use Rattle.thin_repair.specs.Repair.{Minimal, NoneExplains}
-use Rattle.certificates.specs.Document.{Document as Claim}
-use Rattle.certificates.specs.Applying.{Edits}
+use Rattle.repair_problem.specs.Repair.{Minimal, NoneExplains}
+use Rattle.proof_documents.specs.Document.{Document as Claim}
+use Rattle.proof_documents.specs.Applying.{Edits}
 use Rattle.shelf_io.specs.Held.{Held}
-use Rattle.explain_cli.specs.declared.role.Role.{Role}
-use Rattle.explain_cli.specs.declared.role.Reason.{Reason}
+use Rattle.command_words.specs.declared.words.Command.{Command}
+use Rattle.command_words.specs.declared.words.Command.TheVariants.{Explain, Apply}
+use Rattle.command_words.specs.Words.{words_of}
+use Rattle.document_input.specs.declared.role.Role.{Role}
+use Rattle.document_input.specs.declared.refusal.InputRefusal.{InputRefusal}
+use Rattle.document_input.specs.declared.error.InputError.TheVariants.{Unread}
+use Rattle.document_input.specs.NamedDocument.{NamedDocument}
+use Rattle.document_input.specs.Reading.{IsErrorIn}
+use Rattle.document_input.specs.Told.{Change, ShelfTold}
+use Rattle.explain_cli.specs.declared.report.Report.{Report}
 use Rattle.explain_cli.specs.declared.status.Status.{Status}
-use Rattle.explain_cli.specs.declared.status.Status.TheVariants.{Done, No, Usage, Input, Read, Write, Memory, TooMany, Spent}
-use Rattle.explain_cli.specs.declared.words.Command.{Command}
-use Rattle.explain_cli.specs.declared.words.Command.TheVariants.{Explain, Apply}
+use Rattle.explain_cli.specs.declared.status.Status.TheVariants.{Done, No, Usage, Input, Read, TooMany}
 use Rattle.explain_cli.specs.ClaimText.{claim_of_pair, claim_of_none}
-use Rattle.explain_cli.specs.Input.{Contents, Names, Graphs, ApplyNames, IsInput, AreApplied, IsFirstRefusal}
-use Rattle.explain_cli.specs.Notes.{usage_line, input_line, too_many_line}
+use Rattle.explain_cli.specs.Input.{Contents, documents_of, Names, names, Graphs, IsInput, AreApplied, RefusesIn}
+use Rattle.explain_cli.specs.Notes.{usage_line, input_line, read_line, too_many_line}
+use Rattle.explain_cli.specs.Reports.{answer, note}
 
--- the status of an answer, and what it writes to out and to the notes
-pub record Texts : Type 0 where
-  pub status : Status
-  pub out : List ℕ
-  pub notes : List ℕ
+-- the status is one of these
+abbrev pub IsOneOf : List Status → Status → Type 0
+IsOneOf [] status = ⊥
+IsOneOf (one ∷ others) status = (status ≡ one) ⊎ IsOneOf others status
+
+-- the statuses that a command answers with where nothing fails and its input is not refused
+abbrev pub statuses_of : Command → List Status
+statuses_of (Explain shapes present offered) = Done ∷ No ∷ TooMany ∷ []
+statuses_of (Apply present document) = Done ∷ []
+
+-- ---- explain
 
 -- out is the claim of a pair that is minimal for the graphs of the documents
-pub record ClaimsPair (names : Names) (held : Contents) (out : List ℕ) : Type 0 where
+pub record ClaimsPair (names : Names) (held : Contents) (report : Report) : Type 0 where
   pub graphs : Graphs
   pub input : IsInput names held graphs
   pub few : candidate_count graphs.present graphs.offered ≤ 12
   pub adds : Graph
   pub deletes : Graph
   pub minimal : Minimal (Conforms graphs.shapes) graphs.present (without graphs.offered graphs.present) adds deletes
-  pub text : out ≡ claim_of_pair adds deletes
+  pub texts : report ≡ answer Done (claim_of_pair adds deletes)
 
 -- out is the claim that no pair explains, and none does for the graphs of the documents
-pub record ClaimsNone (names : Names) (held : Contents) (out : List ℕ) : Type 0 where
+pub record ClaimsNone (names : Names) (held : Contents) (report : Report) : Type 0 where
   pub graphs : Graphs
   pub input : IsInput names held graphs
   pub few : candidate_count graphs.present graphs.offered ≤ 12
   pub none : NoneExplains (Conforms graphs.shapes) graphs.present (without graphs.offered graphs.present)
-  pub text : out ≡ claim_of_none
+  pub texts : report ≡ answer No claim_of_none
 
 -- the input is in order, and more than twelve triples could be deleted or added
-pub record HasTooMany (names : Names) (held : Contents) (notes : List ℕ) : Type 0 where
+pub record HasTooMany (names : Names) (held : Contents) (report : Report) : Type 0 where
   pub graphs : Graphs
   pub input : IsInput names held graphs
   pub many : 12 < candidate_count graphs.present graphs.offered
-  pub text : notes ≡ too_many_line (candidate_count graphs.present graphs.offered)
+  pub texts : report ≡ note TooMany (too_many_line (candidate_count graphs.present graphs.offered))
+
+-- ---- apply
 
 -- out is the canonical text of the data as the claim edits it, and is read back as that graph
-pub record WritesEdited (names : ApplyNames) (held : Contents) (out : List ℕ) : Type 0 where
+pub record WritesEdited (data_name claim_name : List ℕ) (held : Contents) (report : Report) : Type 0 where
   pub present : Graph
   pub claim : Claim
-  pub documents : AreApplied names held present claim
+  pub documents : AreApplied data_name claim_name held present claim
   pub made : Graph
   pub edits : Edits present claim made
-  pub text : out ≡ graph_text made
-  pub read_back : NtText out OfData made
+  pub texts : report ≡ answer Done (graph_text made)
+  pub read_back : NtText (graph_text made) OfData made
+
+-- ---- every command
+
+-- the answers of a command to an input that is not refused
+abbrev pub IsAnswer : Command → Contents → Report → Type 0
+IsAnswer (Explain shapes present offered) held report =
+    let n = names shapes present offered in
+    ClaimsPair n held report ⊎ ClaimsNone n held report ⊎ HasTooMany n held report
+IsAnswer (Apply present document) held report = WritesEdited present document held report
+
+-- an answer, where the shelf tells what it holds; where it does not, the status alone is known
+abbrev pub IsAnswerIn : Command → Held → Report → Type 0
+IsAnswerIn command None report = IsOneOf (statuses_of command) report.status
+IsAnswerIn command (Some held) report = IsAnswer command held report
 
 -- the notes name the first refusal of the input
-pub record IsRefused (command : Command) (held : Contents) (notes : List ℕ) : Type 0 where
+pub record NamesRefusal (command : Command) (held : Held) (report : Report) : Type 0 where
+  pub refusal : InputRefusal
+  pub first : RefusesIn command held refusal
+  pub texts : report ≡ note Input (input_line refusal)
+
+-- The notes name the role of a document that could not be read: the shelf's count for its name rose. Those
+-- before it are in order, where the shelf tells what it holds.
+pub record NamesReadFault (documents : List NamedDocument) (shelf : Change ShelfTold) (report : Report) : Type 0 where
   pub role : Role
-  pub reason : Reason
-  pub first : IsFirstRefusal command held role reason
-  pub text : notes ≡ input_line role reason
+  pub first : IsErrorIn shelf documents (Unread role)
+  pub texts : report ≡ note Read (read_line role)
 
--- the answer of `explain`, by its status
-abbrev pub ExplainAnswers : Command → Names → Contents → Status → List ℕ → List ℕ → Type 0
-ExplainAnswers command names held Done out notes = ClaimsPair names held out × (notes ≡ [])
-ExplainAnswers command names held No out notes = ClaimsNone names held out × (notes ≡ [])
-ExplainAnswers command names held Input out notes = IsRefused command held notes × (out ≡ [])
-ExplainAnswers command names held TooMany out notes = HasTooMany names held notes × (out ≡ [])
-ExplainAnswers command names held Usage out notes = ⊥
-ExplainAnswers command names held Read out notes = ⊥
-ExplainAnswers command names held Write out notes = ⊥
-ExplainAnswers command names held Memory out notes = ⊥
-ExplainAnswers command names held Spent out notes = ⊥
+-- what a command means to write
+abbrev pub CommandMeans : Command → Change ShelfTold → Report → Type 0
+CommandMeans command shelf report =
+    IsAnswerIn command shelf.before.held report
+    ⊎ NamesRefusal command shelf.before.held report
+    ⊎ NamesReadFault (documents_of command) shelf report
 
--- the answer of `apply`, by its status
-abbrev pub ApplyAnswers : Command → ApplyNames → Contents → Status → List ℕ → List ℕ → Type 0
-ApplyAnswers command names held Done out notes = WritesEdited names held out × (notes ≡ [])
-ApplyAnswers command names held Input out notes = IsRefused command held notes × (out ≡ [])
-ApplyAnswers command names held No out notes = ⊥
-ApplyAnswers command names held TooMany out notes = ⊥
-ApplyAnswers command names held Usage out notes = ⊥
-ApplyAnswers command names held Read out notes = ⊥
-ApplyAnswers command names held Write out notes = ⊥
-ApplyAnswers command names held Memory out notes = ⊥
-ApplyAnswers command names held Spent out notes = ⊥
+-- what a call means to write, by what its words are
+abbrev pub MeansFor : Result Command ℕ → Change ShelfTold → Report → Type 0
+MeansFor (Err position) shelf report = report ≡ note Usage (usage_line position)
+MeansFor (Ok command) shelf report = CommandMeans command shelf report
 
-abbrev pub CommandAnswers : Command → Contents → Texts → Type 0
-CommandAnswers (Explain shapes present offered) held t =
-    ExplainAnswers (Explain shapes present offered) (record { shapes = shapes; present = present; offered = offered }) held t.status t.out t.notes
-CommandAnswers (Apply present document) held t =
-    ApplyAnswers (Apply present document) (record { present = present; document = document }) held t.status t.out t.notes
-
--- the statuses that a command may answer with, before its texts are written
-abbrev pub MayExplain : Status → Type 0
-MayExplain Done = Unit {0}
-MayExplain No = Unit {0}
-MayExplain Input = Unit {0}
-MayExplain TooMany = Unit {0}
-MayExplain Usage = ⊥
-MayExplain Read = ⊥
-MayExplain Write = ⊥
-MayExplain Memory = ⊥
-MayExplain Spent = ⊥
-
-abbrev pub MayApply : Status → Type 0
-MayApply Done = Unit {0}
-MayApply Input = Unit {0}
-MayApply No = ⊥
-MayApply TooMany = ⊥
-MayApply Usage = ⊥
-MayApply Read = ⊥
-MayApply Write = ⊥
-MayApply Memory = ⊥
-MayApply Spent = ⊥
-
-abbrev pub MayAnswer : Command → Status → Type 0
-MayAnswer (Explain shapes present offered) status = MayExplain status
-MayAnswer (Apply present document) status = MayApply status
-
--- the answer, where the shelf tells what it holds; where it does not, the status alone is known
-abbrev pub CommandAnswersIn : Command → Held → Texts → Type 0
-CommandAnswersIn command None t = MayAnswer command t.status
-CommandAnswersIn command (Some held) t = CommandAnswers command held t
-
--- the answer to the words
-abbrev pub Answers : Result Command ℕ → Held → Texts → Type 0
-Answers (Err position) held t = t ≡ record { status = Usage; out = []; notes = usage_line position }
-Answers (Ok command) held t = CommandAnswersIn command held t
+abbrev pub Means : List (List ℕ) → Change ShelfTold → Report → Type 0
+Means words shelf report = MeansFor (words_of words) shelf report

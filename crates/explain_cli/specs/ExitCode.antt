@@ -1,7 +1,8 @@
 -- The exit status of the program for each status of a call.
 use Rattle.std.specs.Prelude.{ℕ}
 use Rattle.explain_cli.specs.declared.status.Status.{Status}
-use Rattle.explain_cli.specs.declared.status.Status.TheVariants.{Done, No, Usage, Input, Read, Write, Memory, TooMany, Spent}
+use Rattle.explain_cli.specs.declared.status.Status.TheVariants.{Done, No, Usage, Input, Read, Write, Memory}
+use Rattle.explain_cli.specs.declared.status.Status.TheVariants.{TooMany, Spent}
 
 abbrev pub code_of : Status → ℕ
 code_of Done = 0

@@ -1,11 +1,9 @@
 pub mod Answer
 pub mod Causes
 pub mod ClaimText
+pub mod Commands
 pub mod ExitCode
 pub mod Input
 pub mod Notes
 pub mod Outcome
-pub mod Reading
-pub mod Report
-pub mod Words
-pub mod WordsRefusal
+pub mod Reports

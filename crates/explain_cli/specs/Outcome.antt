@@ -1,86 +1,61 @@
 -- What a call leaves in its two sinks, and why.
-use Rattle.std.specs.Prelude.{◌≡◌, ℕ, ◌⊎◌, List, [], Option, Result, Ok, Err}
-use Rattle.shelf_io.specs.Held.{Held}
+use Rattle.std.specs.Prelude.{◌≡◌, ℕ, ◌⊎◌, List, Option}
 use Rattle.shelf_io.specs.Documents.{Gained, GainedPrefix}
 use Rattle.shelf_io.specs.Causes.{Rose}
-use Rattle.explain_cli.specs.declared.role.Role.{Role}
+use Rattle.document_input.specs.Told.{Change, ShelfTold}
+use Rattle.explain_cli.specs.declared.report.Report.{Report}
 use Rattle.explain_cli.specs.declared.status.Status.{Status}
-use Rattle.explain_cli.specs.declared.status.Status.TheVariants.{Done, No, Usage, Input, Read, Write, Memory, TooMany, Spent}
-use Rattle.explain_cli.specs.declared.words.Command.{Command}
-use Rattle.explain_cli.specs.Input.{Named, documents_of, IsNext}
-use Rattle.explain_cli.specs.Notes.{read_line}
-use Rattle.explain_cli.specs.Words.{words_of}
-use Rattle.explain_cli.specs.Answer.{Texts, Answers}
+use Rattle.explain_cli.specs.declared.status.Status.TheVariants.{Write, Memory}
+use Rattle.explain_cli.specs.Answer.{Means}
 
--- a shelf before and after the call: what it holds, where it tells, and its counts of faults
-pub record ShelfTold : Type 0 where
-  pub held : Held
-  pub before : List ℕ → ℕ
-  pub after : List ℕ → ℕ
-
--- a sink before and after the call: what was written, where it tells, and its count of faults
+-- what a sink tells: the bytes that were written, where it tells them, and its count of faults
 pub record SinkTold : Type 0 where
-  pub before : Option (List ℕ)
-  pub after : Option (List ℕ)
-  pub faults_before : ℕ
-  pub faults_after : ℕ
+  pub written : Option (List ℕ)
+  pub faults : ℕ
 
--- The document of a role could not be read: the shelf's count of its name rose. Those before it are in order,
--- where the shelf tells what it holds.
-pub record IsReadFault (documents : List Named) (shelf : ShelfTold) (t : Texts) : Type 0 where
-  pub role : Role
-  pub name : List ℕ
-  pub next : IsNext documents shelf.held role name
-  pub rose : Rose (shelf.before name) (shelf.after name)
-  pub texts : t ≡ record { status = Read; out = []; notes = read_line role }
+abbrev pub sink_told : {Sink : Type 0} → (Sink → Option (List ℕ)) → (Sink → ℕ) → Sink → SinkTold
+sink_told written faults sink = record { written = written sink; faults = faults sink }
 
--- a read fault comes only where the words are in order
-abbrev pub MeetsReadFault : Result Command ℕ → ShelfTold → Texts → Type 0
-MeetsReadFault (Err position) shelf t = ⊥
-MeetsReadFault (Ok command) shelf t = IsReadFault (documents_of command) shelf t
-
--- the texts that a call means to write: an answer to the words, or those of a read fault
-abbrev pub Means : List (List ℕ) → ShelfTold → Texts → Type 0
-Means words shelf t = Answers (words_of words) shelf.held t ⊎ MeetsReadFault (words_of words) shelf t
+-- the sink's count of faults rose
+abbrev pub RoseIn : Change SinkTold → Type 0
+RoseIn sink = Rose sink.before.faults sink.after.faults
 
 -- each sink gained all of its text
-pub record Wrote (t : Texts) (out notes : SinkTold) : Type 0 where
-  pub out_gained : Gained out.before out.after t.out
-  pub notes_gained : Gained notes.before notes.after t.notes
+pub record Wrote (report : Report) (out notes : Change SinkTold) : Type 0 where
+  pub out_gained : Gained out.before.written out.after.written report.out
+  pub notes_gained : Gained notes.before.written notes.after.written report.notes
 
 -- out failed: it gained a prefix of its text, and the notes nothing
-pub record BrokeAtOut (t : Texts) (out notes : SinkTold) : Type 0 where
-  pub rose : Rose out.faults_before out.faults_after
-  pub out_gained : GainedPrefix out.before out.after t.out
-  pub notes_kept : notes.after ≡ notes.before
+pub record BrokeAtOut (report : Report) (out notes : Change SinkTold) : Type 0 where
+  pub rose : RoseIn out
+  pub out_gained : GainedPrefix out.before.written out.after.written report.out
+  pub notes_kept : notes.after.written ≡ notes.before.written
 
 -- the notes failed: out gained all of its text, and the notes a prefix of theirs
-pub record BrokeAtNotes (t : Texts) (out notes : SinkTold) : Type 0 where
-  pub rose : Rose notes.faults_before notes.faults_after
-  pub out_gained : Gained out.before out.after t.out
-  pub notes_gained : GainedPrefix notes.before notes.after t.notes
+pub record BrokeAtNotes (report : Report) (out notes : Change SinkTold) : Type 0 where
+  pub rose : RoseIn notes
+  pub out_gained : Gained out.before.written out.after.written report.out
+  pub notes_gained : GainedPrefix notes.before.written notes.after.written report.notes
 
--- the texts that were meant stand in the sinks
-pub record Ends (words : List (List ℕ)) (shelf : ShelfTold) (out notes : SinkTold) (status : Status) : Type 0 where
-  pub texts : Texts
-  pub status_is : texts.status ≡ status
-  pub meant : Means words shelf texts
-  pub wrote : Wrote texts out notes
+-- the status after the writes: that of the report, or that a sink did not take all of its text
+abbrev pub Writes : Report → Change SinkTold → Change SinkTold → Status → Type 0
+Writes report out notes status =
+    ((status ≡ report.status) × Wrote report out notes)
+    ⊎ ((status ≡ Write) × (BrokeAtOut report out notes ⊎ BrokeAtNotes report out notes))
 
--- a sink did not take all of the text that was meant for it
-pub record Breaks (words : List (List ℕ)) (shelf : ShelfTold) (out notes : SinkTold) : Type 0 where
-  pub texts : Texts
-  pub meant : Means words shelf texts
-  pub broke : BrokeAtOut texts out notes ⊎ BrokeAtNotes texts out notes
+-- a report that was meant was written, or as much of it as the sinks took
+pub record WritesReport (words : List (List ℕ)) (shelf : Change ShelfTold) (out notes : Change SinkTold)
+    (status : Status) : Type 0 where
+  pub report : Report
+  pub meant : Means words shelf report
+  pub written : Writes report out notes status
 
--- how a call ends, by its status
-abbrev pub Outcome : List (List ℕ) → ShelfTold → SinkTold → SinkTold → Status → Type 0
-Outcome words shelf out notes Memory = (out.after ≡ out.before) × (notes.after ≡ notes.before)
-Outcome words shelf out notes Write = Breaks words shelf out notes
-Outcome words shelf out notes Done = Ends words shelf out notes Done
-Outcome words shelf out notes No = Ends words shelf out notes No
-Outcome words shelf out notes Usage = Ends words shelf out notes Usage
-Outcome words shelf out notes Input = Ends words shelf out notes Input
-Outcome words shelf out notes Read = Ends words shelf out notes Read
-Outcome words shelf out notes TooMany = Ends words shelf out notes TooMany
-Outcome words shelf out notes Spent = ⊥
+-- memory could not be had, and nothing was written
+pub record WritesNothing (out notes : Change SinkTold) (status : Status) : Type 0 where
+  pub memory : status ≡ Memory
+  pub out_kept : out.after.written ≡ out.before.written
+  pub notes_kept : notes.after.written ≡ notes.before.written
+
+-- how a call ends
+abbrev pub Outcome : List (List ℕ) → Change ShelfTold → Change SinkTold → Change SinkTold → Status → Type 0
+Outcome words shelf out notes status = WritesReport words shelf out notes status ⊎ WritesNothing out notes status

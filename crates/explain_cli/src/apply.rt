@@ -1,48 +1,53 @@
-ghost use Rattle.std.specs.Prelude.{IfOk};
-ghost use Rattle.explain_cli.specs.declared.words.Command.TheVariants.{Apply};
-ghost use Rattle.explain_cli.specs.Report.{texts_of, IsApplyReport, MeansCommand};
+ghost use Rattle.std.specs.Prelude.{◌≡◌};
+ghost use Rattle.command_words.specs.declared.words.Command.TheVariants.{Apply};
+ghost use Rattle.document_input.specs.Told.{during, shelf_told};
+ghost use Rattle.explain_cli.specs.Commands.{AnswersCommand, ReportsEdited};
 
-use crate::documents::read_applied;
 use crate::report::Report;
-use crate::{Reason, Role, Status};
-use certificates::{ApplyRefusal, apply_document};
+use crate::{ClaimRefusal, InputRefusal, Role, Status};
+use document_input::{InputError, Reader};
 use ntriples_io::write_graph;
-use rdf_terms::{Bytes, Graph, OutOfMemory};
+use proof_documents::{ApplyRefusal, apply_document};
+use rdf_terms::Graph;
 use shelf_io::Shelf;
 use std::alloc::Global;
 
-/// The report of `apply`.
+/// The answer to `apply`: the data and the claim are read, and the data is edited.
 pub fn apply_report<H: Shelf>(
-    alloc: Global,
-    shelf: &mut H,
+    reader: &mut Reader<H>,
     present: &str,
     document: &str,
-) -> Result<Report, OutOfMemory>
-    ensures { IfOk result (λ r. MeansCommand (Apply present.now document.now) (record { held = H.held shelf.old; before = H.faults shelf.old; after = H.faults shelf.new }) (texts_of r)) }
+) -> Result<Report, InputError>
+    ensures answer { AnswersCommand (Apply present.now document.now)
+        (during (shelf_told H.held H.faults) reader.old.shelf.now reader.new.shelf.now) result }
+    ensures same_shelf { reader.new.shelf.ghost_name ≡ reader.old.shelf.ghost_name }
 {
-    match read_applied(alloc, shelf, present, document) {
-        Ok(applied) => {
-            let edited = apply_document(alloc, &applied.present, &applied.claim);
-            edited_report(alloc, edited)
+    let present = reader.graph(Role::Data, present)?;
+    let claim = reader.document(document)?;
+    let edited = apply_document(reader.alloc, &present, &claim);
+    edited_report(reader.alloc, edited)
+}
+
+/// The report of the edited graph, or why there is none.
+fn edited_report(alloc: Global, edited: Result<Graph, ApplyRefusal>) -> Result<Report, InputError>
+    ensures { ReportsEdited edited result }
+{
+    match edited {
+        Ok(graph) => {
+            let out = write_graph(alloc, &graph)?;
+            Ok(Report::answer(alloc, Status::Done, out))
         }
-        Err(blame) => Report::blame(alloc, blame),
+        Err(ApplyRefusal::NoPair) => Err(claim_error(ClaimRefusal::NoPair)),
+        Err(ApplyRefusal::OutsideData { line }) => {
+            Err(claim_error(ClaimRefusal::PairOutside { line }))
+        }
+        Err(ApplyRefusal::OutOfMemory) => Err(InputError::OutOfMemory),
     }
 }
 
-/// The report of the edited graph, or of why there is none.
-fn edited_report(alloc: Global, edited: Result<Graph, ApplyRefusal>) -> Result<Report, OutOfMemory>
-    ensures { IfOk result (λ r. IsApplyReport edited (texts_of r)) }
+/// The error of a claim that can't be applied.
+fn claim_error(refusal: ClaimRefusal) -> InputError
+    ensures { result ≡ InputError.Refused (InputRefusal.Claim refusal) }
 {
-    match edited {
-        Ok(graph) => Ok(Report {
-            status: Status::Done,
-            out: write_graph(alloc, &graph)?,
-            notes: Bytes::new(alloc),
-        }),
-        Err(ApplyRefusal::NoPair) => Report::input(alloc, Role::Document, Reason::NoPair),
-        Err(ApplyRefusal::OutsideData { line }) => {
-            Report::input(alloc, Role::Document, Reason::PairOutside { line })
-        }
-        Err(ApplyRefusal::OutOfMemory) => Err(OutOfMemory),
-    }
+    InputError::Refused(InputRefusal::Claim(refusal))
 }

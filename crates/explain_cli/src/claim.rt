@@ -1,6 +1,6 @@
 ghost use Rattle.std.specs.Prelude.{◌≡◌, ◌++◌, OnOk, IfOk};
 ghost use Rattle.rdf_terms.specs.Graph.{triples};
-ghost use Rattle.certificates.specs.DocumentText.{lines_with};
+ghost use Rattle.proof_documents.specs.DocumentText.{lines_with};
 ghost use Rattle.explain_cli.specs.ClaimText.{claim_of_pair};
 
 use ntriples_io::write_triple;

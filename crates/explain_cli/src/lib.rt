@@ -4,15 +4,14 @@
 
 mod apply;
 mod claim;
-mod documents;
 mod explain;
 mod report;
-mod role;
 mod status;
 mod top;
-mod words;
 
-pub use role::{Reason, Role};
+pub use command_words::{Command, WordsRefusal, read_words};
+pub use document_input::{
+    ClaimRefusal, DocumentRefusal, GraphRefusal, InputRefusal, Role, ShapesRefusal,
+};
 pub use status::Status;
 pub use top::run;
-pub use words::{Command, WordsRefusal, read_words};

@@ -1,3 +1,3 @@
-pub mod Words
+pub mod Exactness
 pub mod Loops
 pub mod NameEnds

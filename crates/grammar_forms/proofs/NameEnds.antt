@@ -5,7 +5,7 @@ use Rattle.std.specs.Prelude.{◌==◌, ◌||◌}
 use Rattle.grammar_forms.specs.Names.{IsNameEnd, name_end, onto, after_dot, end_of, name_end_at, NoName}
 use Rattle.grammar_forms.specs.Exact.{Exact}
 use Rattle.grammar_forms.specs.Reading.{char_at}
-use Rattle.grammar_forms.proofs.Words.{some_is}
+use Rattle.grammar_forms.proofs.Exactness.{some_is}
 
 or_left : (x y : Bool) → x ≡ true → (x || y) ≡ true
 or_left true y h = refl

@@ -9,9 +9,9 @@ pub record One {S : Type 0} (p : S → Bool) (text : List S) (c : S) : Type 0 wh
   pub spelled : text ≡ c ∷ []
   pub passes : p c ≡ true
 
--- these symbols
-abbrev pub word : {S : Type 0} → List S → Form S (Unit {0})
-word w text v = text ≡ w
+-- these symbols, as they stand in quotes in a production
+abbrev pub terminal : {S : Type 0} → List S → Form S (Unit {0})
+terminal w text v = text ≡ w
 
 -- one form and then another
 pub record Then {S A B : Type 0} (P : Form S A) (Q : Form S B) (text : List S) (v : A × B) : Type 0 where
@@ -45,6 +45,11 @@ pub record Made {S A B : Type 0} (f : A → B) (P : Form S A) (text : List S) (w
 pub record Such {S A : Type 0} (p : A → Bool) (P : Form S A) (text : List S) (v : A) : Type 0 where
   pub spelled : P text v
   pub passes : p v ≡ true
+
+-- where the meaning has a property
+pub record Where {S A : Type 0} (Q : A → Type 0) (P : Form S A) (text : List S) (v : A) : Type 0 where
+  pub spelled : P text v
+  pub has : Q v
 
 -- which means the text itself
 pub record Verbatim {S A : Type 0} (P : Form S A) (text v : List S) : Type 0 where

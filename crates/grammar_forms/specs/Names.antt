@@ -25,7 +25,10 @@ after_dot cs (d ∷ ds) rest = (46 ∷ d ∷ ds, rest)
 
 unfoldable pub end_of : (ℕ → Bool) → List ℕ → List ℕ × List ℕ
 end_of p [] = ([], [])
-end_of p (c ∷ cs) = cond (p c) (onto c (end_of p cs)) (cond (c == 46) (after_dot cs (end_of p cs).0 (end_of p cs).1) ([], c ∷ cs))
+end_of p (c ∷ cs) =
+    cond (p c)
+    (onto c (end_of p cs))
+    (cond (c == 46) (after_dot cs (end_of p cs).0 (end_of p cs).1) ([], c ∷ cs))
 
 abbrev pub name_end_at : (ℕ → Bool) → List ℕ → Read ℕ (Unit {0})
 name_end_at p cs = Some (tt, (end_of p cs).1)

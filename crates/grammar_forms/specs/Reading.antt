@@ -1,5 +1,6 @@
--- Reading forms from the left: a function for each word of a grammar. `Exact` ties them to the forms.
-use Rattle.std.specs.Prelude.{ℕ, ◌-◌, take, zero, suc, ◌==◌, Bool, cond, List, [], ◌∷◌, length, Option, Some, None, option_and_then, encode_utf8_all}
+-- Reading forms from the left: a function for each operator of a grammar. `Exact` ties them to the forms.
+use Rattle.std.specs.Prelude.{◌≡◌, true, ◌++◌, ℕ, ◌-◌, take, zero, suc, ◌==◌, Bool, cond, List, [], ◌∷◌, length, Option, Some, None, option_and_then, encode_utf8_all}
+use Rattle.std.specs.List.{list_all}
 use Rattle.grammar_forms.specs.Forms.{first_of, second_of, nothing, is_nonempty}
 
 -- a value and the symbols after it
@@ -14,10 +15,10 @@ abbrev pub one_at : {S : Type 0} → (S → Bool) → List S → Read S S
 one_at p [] = None
 one_at p (c ∷ cs) = cond (p c) (Some (c, cs)) None
 
-abbrev pub word_at : List ℕ → List ℕ → Read ℕ (Unit {0})
-word_at [] cs = Some (tt, cs)
-word_at (x ∷ xs) [] = None
-word_at (x ∷ xs) (c ∷ cs) = cond (c == x) (word_at xs cs) None
+abbrev pub terminal_at : List ℕ → List ℕ → Read ℕ (Unit {0})
+terminal_at [] cs = Some (tt, cs)
+terminal_at (x ∷ xs) [] = None
+terminal_at (x ∷ xs) (c ∷ cs) = cond (c == x) (terminal_at xs cs) None
 
 abbrev pub then_at : {S A B : Type 0} → (List S → Read S A) → (List S → Read S B) → List S → Read S (A × B)
 then_at r s cs = option_and_then (λ x. option_and_then (λ y. Some ((x.0, y.0), y.1)) (s x.1)) (r cs)
@@ -70,13 +71,27 @@ left r s = made_at first_of (then_at r s)
 
 -- what stands behind these characters, or before them
 abbrev pub behind : List ℕ → {A : Type 0} → (List ℕ → Read ℕ A) → List ℕ → Read ℕ A
-behind w r = over (word_at w) r
+behind w r = over (terminal_at w) r
 
 abbrev pub before : List ℕ → {A : Type 0} → (List ℕ → Read ℕ A) → List ℕ → Read ℕ A
-before w r = left r (word_at w)
+before w r = left r (terminal_at w)
 
 abbrev pub silent_at : {S A : Type 0} → (List S → Read S A) → List S → Read S (Unit {0})
 silent_at r = made_at nothing r
+
+-- all symbols of a class at the front, and the same where there is one at least
+abbrev pub skip_at : {S : Type 0} → (S → Bool) → List S → Read S (Unit {0})
+skip_at p = silent_at (all_at (one_at p))
+
+abbrev pub skip_some_at : {S : Type 0} → (S → Bool) → List S → Read S (Unit {0})
+skip_some_at p = silent_at (some_at (one_at p))
+
+-- all symbols of a class stand before the rest, and none of it stands there
+pub record Skips {S : Type 0} (p : S → Bool) (cs rest : List S) : Type 0 where
+  pub run : List S
+  pub parts : cs ≡ run ++ rest
+  pub each : list_all p run ≡ true
+  pub stops : one_at p rest ≡ None
 
 abbrev pub written_at : {S : Type 0} → (List S → Read S (List ℕ)) → List S → Read S (List ℕ)
 written_at r = made_at encode_utf8_all r

@@ -14,7 +14,11 @@ use Rattle.rdf_terms.specs.Graph.{Graph, has}
 use Rattle.rdf_terms.proofs.GraphLaws.{item_of_has_list}
 use Rattle.rdf_grammar.specs.declared.dialect.Dialect.TheVariants.{NTriples}
 use Rattle.rdf_grammar.specs.Productions.{is_iri_char}
-use Rattle.rdf_grammar.specs.Lawful.{lang_string, xsd_string, IsIri, IsTag, IsLawful, IsLawfulTriple}
+use Rattle.rdf_terms.specs.Vocab.Rdf.{lang_string}
+use Rattle.rdf_terms.specs.Vocab.Xsd.{string as xsd_string}
+use Rattle.rdf_grammar.specs.Lawful.{IsIri, IsTag, IsLawful, IsLawfulTriple}
+use Rattle.rdf_grammar.specs.Reading.{scheme_at}
+use Rattle.rdf_grammar.proofs.Productions.{scheme_decides}
 use Rattle.rdf_grammar.proofs.Lawful.{absolute_iri_lawful, string_lawful, blank_node_label_lawful, langtag_lawful}
 use Rattle.ntriples_io.specs.NTriples.{iri, blank, subject, datatype, is_not_lang_string, kind, kind_of, ws, literal, object, triple}
 use Rattle.ntriples_io.specs.declared.refusal.NtRefusal.{NtRefusal}
@@ -38,12 +42,12 @@ record IsKind (k : List ℕ × Option (List ℕ)) : Type 0 where
   lower : IfSome k.1 IsTag
 
 lang_string_iri : IsIri lang_string
-unfolding encode_utf8 is_iri_char
-lang_string_iri = record { characters = lang_string; spell = refl; each = refl; scheme = refl }
+unfolding encode_utf8 is_iri_char scheme_at
+lang_string_iri = record { characters = lang_string; spell = refl; each = refl; scheme = (scheme_decides lang_string).0 refl }
 
 xsd_string_iri : IsIri xsd_string
-unfolding encode_utf8 is_iri_char
-xsd_string_iri = record { characters = xsd_string; spell = refl; each = refl; scheme = refl }
+unfolding encode_utf8 is_iri_char scheme_at
+xsd_string_iri = record { characters = xsd_string; spell = refl; each = refl; scheme = (scheme_decides xsd_string).0 refl }
 
 not_lang_string : (d : List ℕ) → is_not_lang_string d ≡ true → d ≡ lang_string → ⊥
 not_lang_string d h e = let same : bytes_eq d lang_string ≡ true = (bytes_eq-Decides d lang_string).1 e in opposite (bytes_eq d lang_string) same h

@@ -3,6 +3,7 @@ pub mod CuttingLemmas
 pub mod Joined
 pub mod LawfulText
 pub mod LineForms
+pub mod LineNumbers
 pub mod Once
 pub mod OnlyTriples
 pub mod RoundTrip

@@ -4,11 +4,11 @@ use Rattle.std.specs.Prelude.{◌==◌, ◌||◌, ◌⊎◌, codes}
 use Rattle.std.specs.Str.{IsUtf8, chars}
 use Rattle.std.proofs.lemmas.Bool.{eqb-true}
 use Rattle.std.proofs.lemmas.Str.{scalars-chars, encodes-chars, chars_from_encodes}
-use Rattle.grammar_forms.specs.Forms.{Form, One, word, Then, many, either, optional, Made, ◌⨾◌, ◌▹◌, ◌◃◌}
-use Rattle.grammar_forms.specs.Reading.{made_at, over, whole}
+use Rattle.grammar_forms.specs.Forms.{Form, One, terminal, Then, many, either, optional, Made, ◌⨾◌, ◌▹◌, ◌◃◌}
+use Rattle.grammar_forms.specs.Reading.{one_at, made_at, over, whole}
 use Rattle.grammar_forms.specs.Names.{NoName}
 use Rattle.grammar_forms.specs.Exact.{Exact, anything, IsNonempty}
-use Rattle.grammar_forms.proofs.Words.{Starts, End, narrow, one_exact, one_nonempty, word_exact, then_exact, made_exact, such_exact, many_exact, either_exact, optional_exact, over_exact, left_exact, behind_exact, silent_exact, whole_sound, whole_full}
+use Rattle.grammar_forms.proofs.Exactness.{Starts, End, narrow, one_exact, one_nonempty, terminal_exact, then_exact, made_exact, such_exact, many_exact, either_exact, optional_exact, over_exact, left_exact, behind_exact, silent_exact, whole_sound, whole_full}
 use Rattle.grammar_forms.proofs.NameEnds.{no_name_nil, no_name_before, no_name_dot}
 use Rattle.rdf_terms.specs.declared.term.Scope.{Scope}
 use Rattle.rdf_terms.specs.declared.term.Term.{Term}
@@ -16,45 +16,30 @@ use Rattle.rdf_terms.specs.declared.term.Term.TheVariants.{Iri, Blank}
 use Rattle.rdf_terms.specs.Statement.{Statement}
 use Rattle.rdf_grammar.specs.declared.dialect.Dialect.TheVariants.{NTriples}
 use Rattle.rdf_grammar.specs.Productions.{is_base, is_name_start, is_name_char, string, langtag}
-use Rattle.rdf_grammar.specs.Reading.{iriref_at, absolute_iri_at, blank_node_label_at, letter_at, alnum_at, subtag_at, langtag_at, AfterTag}
+use Rattle.rdf_grammar.specs.Reading.{iriref_at, absolute_iri_at, blank_node_label_at, subtag_at, langtag_at, AfterTag}
 use Rattle.rdf_grammar.proofs.Productions.{no_dot, absolute_iri_exact, string_exact, blank_node_label_exact, blank_node_label_starts, langtag_exact}
-use Rattle.ntriples_io.specs.NTriples.{is_blank, is_in_line, ws, comment, iri, blank, subject, tagged, typed, is_not_lang_string, datatype, kind, kind_of, literal_of, literal, object, statement_of, triple, line}
-use Rattle.ntriples_io.specs.Reading.{blank_char_at, ws_at, comment_char_at, comment_rest_at, comment_at, iri_at, blank_at, subject_at, datatype_at, typed_at, kind_at, kind_or_none_at, literal_at, object_at, end_at, triple_at, line_at}
+use Rattle.ntriples_io.specs.NTriples.{is_space, is_in_line, ws, comment, iri, blank, subject, of_tag, of_datatype, is_not_lang_string, datatype, kind, kind_of, literal_of, literal, object, statement_of, triple, line}
+use Rattle.ntriples_io.specs.Reading.{ws_at, comment_at, iri_at, blank_at, subject_at, datatype_at, type_at, kind_at, kind_or_none_at, literal_at, object_at, end_at, triple_at, line_at}
 use Rattle.ntriples_io.specs.Lines.{IsLine}
 
 -- ---- spaces and comments
 
-pub blank_char_exact : Exact (One is_blank) anything blank_char_at
-unfolding blank_char_at
-blank_char_exact = one_exact is_blank
-
-pub blank_char_nonempty : IsNonempty (One is_blank)
-blank_char_nonempty = one_nonempty is_blank
-
 abbrev NoBlank : List ℕ → Type 0
-NoBlank rest = blank_char_at rest ≡ None
+NoBlank rest = one_at is_space rest ≡ None
 
 pub ws_exact : Exact ws NoBlank ws_at
 unfolding ws_at
-ws_exact = silent_exact (many_exact blank_char_exact blank_char_nonempty)
+ws_exact = silent_exact (many_exact (one_exact is_space) (one_nonempty is_space))
 
-pub comment_char_exact : Exact (One is_in_line) anything comment_char_at
-unfolding comment_char_at
-comment_char_exact = one_exact is_in_line
-
-pub comment_char_nonempty : IsNonempty (One is_in_line)
-comment_char_nonempty = one_nonempty is_in_line
-
-comment_exact : Exact comment (λ rest. comment_char_at rest ≡ None) comment_at
-unfolding comment_at comment_rest_at
-comment_exact = behind_exact (codes "#") (silent_exact (many_exact comment_char_exact comment_char_nonempty))
+comment_exact : Exact comment (λ rest. one_at is_in_line rest ≡ None) comment_at
+unfolding comment_at
+comment_exact = behind_exact (codes "#") (silent_exact (many_exact (one_exact is_in_line) (one_nonempty is_in_line)))
 
 -- what begins with a character that is no blank
 abbrev Dark : List ℕ → Type 0
-Dark a = (c : ℕ) × Starts c a × (is_blank c ≡ false)
+Dark a = (c : ℕ) × Starts c a × (is_space c ≡ false)
 
 dark_no_blank : (a rest : List ℕ) → Dark a → NoBlank (a ++ rest)
-unfolding blank_char_at
 dark_no_blank a rest d = rw (d.1.1, d.2) refl
 
 dark_then : (a b : List ℕ) → Dark a → Dark (a ++ b)
@@ -64,14 +49,14 @@ dark_first : {A B : Type 0} (P : Form ℕ A) (Q : Form ℕ B) (a : List ℕ) (v 
 dark_first P Q a v f h = subst Dark (sym h.parts) (dark_then h.front h.back (f h.front v.0 h.first))
 
 -- a text that may begin with blanks begins with a space, a tab, or as what is behind them
-blank_is : (c : ℕ) → is_blank c ≡ true → (c ≡ 32) ⊎ (c ≡ 9)
+blank_is : (c : ℕ) → is_space c ≡ true → (c ≡ 32) ⊎ (c ≡ 9)
 blank_is c h = blank_by c (c == 32) refl h
   where
     blank_by : (c : ℕ) (t : Bool) → (c == 32) ≡ t → (t || (c == 9)) ≡ true → (c ≡ 32) ⊎ (c ≡ 9)
     blank_by c true e h = inl (eqb-true c 32 e)
     blank_by c false e h = inr (eqb-true c 9 h)
 
-ws_begins : (P : List ℕ → Type 0) → ((t : List ℕ) → P (32 ∷ t)) → ((t : List ℕ) → P (9 ∷ t)) → (vs a rest : List ℕ) → many (One is_blank) a vs → P rest → P (a ++ rest)
+ws_begins : (P : List ℕ → Type 0) → ((t : List ℕ) → P (32 ∷ t)) → ((t : List ℕ) → P (9 ∷ t)) → (vs a rest : List ℕ) → many (One is_space) a vs → P rest → P (a ++ rest)
 ws_begins P space tab [] a rest h p = subst (λ (t : List ℕ). P (t ++ rest)) (sym h) p
 ws_begins P space tab (v ∷ vs) a rest h p =
     let same : a ≡ v ∷ h.back = rw (h.parts, h.first.spelled) refl in
@@ -125,23 +110,23 @@ datatype_exact = such_exact is_not_lang_string absolute_iri_exact
 datatype_dark : (a : List ℕ) (v : List ℕ) → datatype a v → Dark a
 datatype_dark a v h = (60, (h.spelled.spelled.spelled.back, rw (h.spelled.spelled.spelled.parts, h.spelled.spelled.spelled.first) refl), refl)
 
-typed_exact : Exact (Made typed (word (codes "^^") ▹ ws ▹ datatype)) anything typed_at
-unfolding typed_at
-typed_exact = made_exact typed (behind_exact (codes "^^") (over_exact ws_exact datatype_exact (λ b rest w h f. dark_no_blank b rest (datatype_dark b w h))))
+typed_exact : Exact (Made of_datatype (terminal (codes "^^") ▹ ws ▹ datatype)) anything type_at
+unfolding type_at
+typed_exact = made_exact of_datatype (behind_exact (codes "^^") (over_exact ws_exact datatype_exact (λ b rest w h f. dark_no_blank b rest (datatype_dark b w h))))
 
-typed_starts : (a : List ℕ) (v : List ℕ × Option (List ℕ)) → Made typed (word (codes "^^") ▹ ws ▹ datatype) a v → Starts 94 a
+typed_starts : (a : List ℕ) (v : List ℕ × Option (List ℕ)) → Made of_datatype (terminal (codes "^^") ▹ ws ▹ datatype) a v → Starts 94 a
 typed_starts a v h = (94 ∷ h.spelled.spelled.back, rw (h.spelled.spelled.parts, h.spelled.spelled.first) refl)
 
-tagged_starts : (a : List ℕ) (v : List ℕ × Option (List ℕ)) → Made tagged langtag a v → Starts 64 a
+tagged_starts : (a : List ℕ) (v : List ℕ × Option (List ℕ)) → Made of_tag langtag a v → Starts 64 a
 tagged_starts a v h = (h.spelled.spelled.back, rw (h.spelled.spelled.parts, h.spelled.spelled.first) refl)
 
-no_tag_before : (rest : List ℕ) → made_at tagged langtag_at (94 ∷ rest) ≡ None
+no_tag_before : (rest : List ℕ) → made_at of_tag langtag_at (94 ∷ rest) ≡ None
 unfolding langtag_at
 no_tag_before rest = refl
 
 kind_exact : Exact kind AfterTag kind_at
 unfolding kind_at
-kind_exact = either_exact (made_exact tagged langtag_exact) (narrow typed_exact (λ rest (f : AfterTag rest). tt)) (λ a rest v h f. let k = typed_starts a v h in rw k.1 (no_tag_before (k.0 ++ rest)))
+kind_exact = either_exact (made_exact of_tag langtag_exact) (narrow typed_exact (λ rest (f : AfterTag rest). tt)) (λ a rest v h f. let k = typed_starts a v h in rw k.1 (no_tag_before (k.0 ++ rest)))
 
 kind_dark : (a : List ℕ) (v : List ℕ × Option (List ℕ)) → kind a v → Dark a
 kind_dark a v h = elim h [ inl k ↦ (64, tagged_starts a v k, refl) | inr k ↦ (94, typed_starts a v k, refl) ]
@@ -193,11 +178,11 @@ object_dark scope a v h = elim h [ inl k ↦ iri_dark a v k | inr k ↦ elim k [
 -- ---- a triple
 
 abbrev dot : Form ℕ (Unit {0})
-dot = word (codes ".") ◃ ws
+dot = terminal (codes ".") ◃ ws
 
 end_exact : Exact dot NoBlank end_at
 unfolding end_at
-end_exact = left_exact (word_exact (codes ".")) ws_exact (λ b rest w h g. tt)
+end_exact = left_exact (terminal_exact (codes ".")) ws_exact (λ b rest w h g. tt)
 
 dot_starts : (a : List ℕ) (v : Unit {0}) → dot a v → Starts 46 a
 dot_starts a v h = (h.spelled.back, rw (h.spelled.parts, h.spelled.first) refl)
@@ -235,23 +220,22 @@ no_label_dot a rest v h f =
     subst (λ (t : List ℕ). NoLabel (t ++ rest)) (sym same) (no_name_dot (is_name_char NTriples) (h.spelled.back ++ rest) (no_dot NTriples) after)
 
 after_tag_space : (rest : List ℕ) → AfterTag (32 ∷ rest)
-unfolding letter_at alnum_at subtag_at
+unfolding subtag_at
 after_tag_space rest = record { no_letter = refl; no_alnum = refl; no_subtag = refl }
 
 after_tag_tab : (rest : List ℕ) → AfterTag (9 ∷ rest)
-unfolding letter_at alnum_at subtag_at
+unfolding subtag_at
 after_tag_tab rest = record { no_letter = refl; no_alnum = refl; no_subtag = refl }
 
 after_tag_dot : (rest : List ℕ) → AfterTag (46 ∷ rest)
-unfolding letter_at alnum_at subtag_at
+unfolding subtag_at
 after_tag_dot rest = record { no_letter = refl; no_alnum = refl; no_subtag = refl }
 
 no_kind_dot : (rest : List ℕ) → kind_at (46 ∷ rest) ≡ None
-unfolding kind_at typed_at langtag_at
+unfolding kind_at type_at langtag_at
 no_kind_dot rest = refl
 
 no_blank_dot : (rest : List ℕ) → NoBlank (46 ∷ rest)
-unfolding blank_char_at
 no_blank_dot rest = refl
 
 -- what ends a triple may follow its object
@@ -294,19 +278,18 @@ triple_dark : (scope : Scope) (a : List ℕ) (v : Statement) → triple scope a 
 triple_dark scope a v h = dark_first (subject scope) (ws ▹ iri ⨾ ws ▹ object scope ◃ ws ▹ dot) a h.own (subject_dark scope) h.spelled
 
 after_nil : (scope : Scope) → AfterTriple scope []
-unfolding triple_at subject_at iri_at absolute_iri_at iriref_at blank_at blank_node_label_at blank_char_at
+unfolding triple_at subject_at iri_at absolute_iri_at iriref_at blank_at blank_node_label_at
 after_nil scope = record { blank = refl; label = no_name_nil (is_name_char NTriples); triple = refl }
 
 after_hash : (scope : Scope) (t : List ℕ) → AfterTriple scope (35 ∷ t)
-unfolding triple_at subject_at iri_at absolute_iri_at iriref_at blank_at blank_node_label_at blank_char_at
+unfolding triple_at subject_at iri_at absolute_iri_at iriref_at blank_at blank_node_label_at
 after_hash scope t = record { blank = refl; label = no_label_hash t; triple = refl }
 
 no_comment : (rest : List ℕ) → End rest → comment_at rest ≡ None
 unfolding comment_at
 no_comment rest e = rw e refl
 
-no_comment_char : (rest : List ℕ) → End rest → comment_char_at rest ≡ None
-unfolding comment_char_at
+no_comment_char : (rest : List ℕ) → End rest → one_at is_in_line rest ≡ None
 no_comment_char rest e = rw e refl
 
 comment_starts : (a : List ℕ) (v : Unit {0}) → comment a v → Starts 35 a

@@ -2,12 +2,13 @@
 use Rattle.std.proofs.Common.{◌≡◌, ℕ, List, [], ◌∷◌, ◌++◌, Option, Result, Ok, Err, sym, ap, subst, ◌∙◌}
 use Rattle.rdf_terms.specs.declared.term.Scope.{Scope}
 use Rattle.rdf_terms.specs.Statement.{Statement}
+use Rattle.rdf_terms.specs.Answers.{UnlessMemory}
 use Rattle.rdf_terms.specs.Graph.{Graph, of_list}
 use Rattle.ntriples_io.specs.declared.refusal.NtRefusal.{NtRefusal}
 use Rattle.ntriples_io.specs.declared.refusal.NtRefusal.TheVariants.{Syntax, OutOfMemory}
 use Rattle.ntriples_io.specs.Cutting.{Line, lines_of}
 use Rattle.ntriples_io.specs.Lines.{IsLine}
-use Rattle.ntriples_io.specs.Text.{listed, AreLines, IsFirstBad, NtText, BadLine, TextMeans, UnlessMemory, IsAnswer}
+use Rattle.ntriples_io.specs.Text.{listed, AreLines, IsFirstBad, NtText, BadLine, TextMeans, is_memory, IsAnswer}
 use Rattle.ntriples_io.proofs.LineForms.{one_meaning}
 
 lines_once : (scope : Scope) (ls : List Line) (ts us : List Statement) → AreLines scope ls ts → AreLines scope ls us → ts ≡ us
@@ -26,7 +27,7 @@ bad_within scope [] after l ts none h = none h.meaning h.is_line
 bad_within scope (k ∷ before) after l ts none h = bad_within scope before after l h.later none h.rest
 
 pub never_both : (bytes : List ℕ) (scope : Scope) (g : Graph) (n : ℕ) → NtText bytes scope g → BadLine bytes scope n → ⊥
-never_both bytes scope g n x y = bad_within scope y.before y.after (record { number = n; piece = y.bad }) x.triples y.no_line (subst (λ (ls : List Line). AreLines scope ls x.triples) y.parts x.lines)
+never_both bytes scope g n x y = bad_within scope y.first.before y.first.after (record { number = n; piece = y.first.bad }) x.triples y.first.no_line (subst (λ (ls : List Line). AreLines scope ls x.triples) y.first.parts x.lines)
 
 first_of_two : (scope : Scope) (before other after more : List Line) (l m : Line) (ts us : List Statement) → ((v : Option Statement) → ¬ (IsLine scope l.piece v)) → ((v : Option Statement) → ¬ (IsLine scope m.piece v))
     → AreLines scope before ts → AreLines scope other us → before ++ l ∷ after ≡ other ++ m ∷ more → l ≡ m
@@ -45,11 +46,11 @@ pub bad_once : (scope : Scope) (ls : List Line) (n m : ℕ) → IsFirstBad scope
 bad_once scope ls n m x y =
     ap (λ (l : Line). l.number) (first_of_two scope x.before y.before x.after y.after (record { number = n; piece = x.bad }) (record { number = m; piece = y.bad }) x.triples y.triples x.no_line y.no_line x.lines y.lines (sym x.parts ∙ y.parts))
 
-pub one_answer : (bytes : List ℕ) (scope : Scope) (result other : Result Graph NtRefusal) → IsAnswer bytes scope result → TextMeans bytes scope other → UnlessMemory result (result ≡ other)
+pub one_answer : (bytes : List ℕ) (scope : Scope) (result other : Result Graph NtRefusal) → IsAnswer bytes scope result → TextMeans bytes scope other → UnlessMemory is_memory result (result ≡ other)
 one_answer bytes scope (Ok g) (Ok h) x y = ap Ok (text_once bytes scope g h x y)
 one_answer bytes scope (Ok g) (Err (Syntax n)) x y = absurd (never_both bytes scope g n x y)
 one_answer bytes scope (Ok g) (Err OutOfMemory) x y = absurd y
 one_answer bytes scope (Err (Syntax n)) (Ok h) x y = absurd (never_both bytes scope h n y x)
-one_answer bytes scope (Err (Syntax n)) (Err (Syntax m)) x y = ap (λ (k : ℕ). Err (Syntax k)) (bad_once scope (lines_of bytes) n m x y)
+one_answer bytes scope (Err (Syntax n)) (Err (Syntax m)) x y = ap (λ (k : ℕ). Err (Syntax k)) (bad_once scope (lines_of bytes) n m x.first y.first)
 one_answer bytes scope (Err (Syntax n)) (Err OutOfMemory) x y = absurd y
 one_answer bytes scope (Err OutOfMemory) other x y = tt

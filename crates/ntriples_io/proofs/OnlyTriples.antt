@@ -5,10 +5,10 @@ use Rattle.std.specs.Prelude.{◌==◌, IsTrue}
 use Rattle.std.specs.Str.{chars}
 use Rattle.std.specs.List.{list_all}
 use Rattle.std.proofs.lemmas.Str.{chars_from_encodes}
-use Rattle.grammar_forms.specs.Forms.{Form, word, Then, ◌⨾◌, ◌▹◌, ◌◃◌}
+use Rattle.grammar_forms.specs.Forms.{Form, terminal, Then, ◌⨾◌, ◌▹◌, ◌◃◌}
 use Rattle.grammar_forms.specs.Reading.{whole}
 use Rattle.grammar_forms.specs.Exact.{Exact}
-use Rattle.grammar_forms.proofs.Words.{Starts, made_exact}
+use Rattle.grammar_forms.proofs.Exactness.{Starts, made_exact}
 use Rattle.grammar_forms.proofs.NameEnds.{no_name_before}
 use Rattle.grammar_forms.specs.Names.{NoName}
 use Rattle.rdf_terms.specs.declared.term.Scope.{Scope}
@@ -22,14 +22,14 @@ use Rattle.rdf_grammar.specs.Reading.{iriref_at, absolute_iri_at, blank_node_lab
 use Rattle.rdf_grammar.specs.Lawful.{IsLawfulTriple}
 use Rattle.rdf_grammar.proofs.Productions.{blank_node_label_exact, blank_node_label_starts}
 use Rattle.ntriples_io.specs.Cutting.{is_plain}
-use Rattle.ntriples_io.specs.NTriples.{is_blank, iri, blank, literal, object}
-use Rattle.ntriples_io.specs.Reading.{blank_char_at, ws_at, comment_at, iri_at, blank_at, subject_at, triple_at, line_at}
+use Rattle.ntriples_io.specs.NTriples.{is_space, iri, blank, literal, object}
+use Rattle.ntriples_io.specs.Reading.{ws_at, comment_at, iri_at, blank_at, subject_at, triple_at, line_at}
 use Rattle.ntriples_io.specs.Lines.{IsLine}
 use Rattle.ntriples_io.specs.CanonicalText.{term_text}
 use Rattle.ntriples_io.specs.RoundTrip.{IsInScope, IsTripleInScope, IsTriple}
 use Rattle.ntriples_io.proofs.LineForms.{iri_exact, is_line_full}
 use Rattle.ntriples_io.proofs.Utf8Bytes.{plain_bytes}
-use Rattle.ntriples_io.proofs.Spelled.{Spelled, spelled_word, spelled_then, spelled_over, spelled_left, same_bytes}
+use Rattle.ntriples_io.proofs.Spelled.{Spelled, spelled_terminal, spelled_then, spelled_over, spelled_left, same_bytes}
 use Rattle.ntriples_io.proofs.TermSpelling.{object_spelled, body_text, regroup}
 
 abbrev pub AreTriples : Graph → Type 0
@@ -57,16 +57,16 @@ literal_only scope a l d t h = elim h [ inl k ↦ let e = k.means in absurd cc |
 -- ---- what is read of a text that is none of a triple
 
 -- nothing is read of a line that begins with no blank, no '#' and no triple
-no_line : (scope : Scope) (c : ℕ) (rest : List ℕ) → is_blank c ≡ false → (c == 35) ≡ false → triple_at scope (c ∷ rest) ≡ None → whole (line_at scope) (c ∷ rest) ≡ None
-unfolding line_at ws_at blank_char_at comment_at
+no_line : (scope : Scope) (c : ℕ) (rest : List ℕ) → is_space c ≡ false → (c == 35) ≡ false → triple_at scope (c ∷ rest) ≡ None → whole (line_at scope) (c ∷ rest) ≡ None
+unfolding line_at ws_at comment_at
 no_line scope c rest dark other h = rw (dark, h, other) refl
 
 no_quote : (scope : Scope) (rest : List ℕ) → triple_at scope (34 ∷ rest) ≡ None
 unfolding triple_at subject_at iri_at absolute_iri_at iriref_at blank_at blank_node_label_at
 no_quote scope rest = refl
 
-no_predicate : (scope : Scope) (s : Term) (text rest : List ℕ) (c : ℕ) → (c == 60) ≡ false → is_blank c ≡ false → subject_at scope text ≡ Some (s, 32 ∷ c ∷ rest) → triple_at scope text ≡ None
-unfolding triple_at ws_at blank_char_at iri_at absolute_iri_at iriref_at
+no_predicate : (scope : Scope) (s : Term) (text rest : List ℕ) (c : ℕ) → (c == 60) ≡ false → is_space c ≡ false → subject_at scope text ≡ Some (s, 32 ∷ c ∷ rest) → triple_at scope text ≡ None
+unfolding triple_at ws_at iri_at absolute_iri_at iriref_at
 no_predicate scope s text rest c other dark h = rw (h, dark, other) refl
 
 iri_subject : (scope : Scope) (a i rest : List ℕ) → iri a (Iri i) → subject_at scope (a ++ rest) ≡ Some (Iri i, rest)
@@ -99,7 +99,7 @@ record BeginsNode (a : List ℕ) : Type 0 where
   first : ℕ
   rest : List ℕ
   is : a ≡ first ∷ rest
-  dark : is_blank first ≡ false
+  dark : is_space first ≡ false
   no_comment : (first == 35) ≡ false
 
 -- another term than an IRI begins with no blank and no '<'
@@ -107,7 +107,7 @@ record BeginsOther (a : List ℕ) : Type 0 where
   first : ℕ
   rest : List ℕ
   is : a ≡ first ∷ rest
-  dark : is_blank first ≡ false
+  dark : is_space first ≡ false
   no_iri : (first == 60) ≡ false
 
 node_begins : (scope : Scope) (s : Term) (a : List ℕ) → object scope a s → is_node s ≡ true → BeginsNode a
@@ -143,7 +143,7 @@ subject_must scope R cs (Literal l d t) w v h e =
     never _ (whole (line_at scope) cs) v (ap (whole (line_at scope)) same ∙ no_line scope 34 (k.0 ++ h.back) refl refl (no_quote scope (k.0 ++ h.back))) e
 
 predicate_must : {B : Type 0} (scope b : Scope) (R : Form ℕ B) (cs : List ℕ) (s p : Term) (w : B) (v : Option Statement)
-    → (object scope ⨾ word (codes " ") ▹ object b ⨾ R) cs (s, (p, w)) → is_node s ≡ true → whole (line_at scope) cs ≡ Some v → (t : Bool) → is_iri p ≡ t → is_iri p ≡ true
+    → (object scope ⨾ terminal (codes " ") ▹ object b ⨾ R) cs (s, (p, w)) → is_node s ≡ true → whole (line_at scope) cs ≡ Some v → (t : Bool) → is_iri p ≡ t → is_iri p ≡ true
 predicate_must scope b R cs s p w v h node e true is = is
 predicate_must scope b R cs s p w v h node e false is =
     let behind = h.second.spelled in
@@ -171,7 +171,7 @@ in_own_scope scope (Blank s l) = refl
 in_own_scope scope (Literal l d t) = tt
 
 abbrev any_line : Scope → Scope → Form ℕ (Term × (Term × Term))
-any_line a b = object a ⨾ word (codes " ") ▹ object b ⨾ word (codes " ") ▹ object a ◃ word (codes " .")
+any_line a b = object a ⨾ terminal (codes " ") ▹ object b ⨾ terminal (codes " ") ▹ object a ◃ terminal (codes " .")
 
 body_spelled : (scope : Scope) (t : Statement) → IsLawfulTriple t → IsTripleInScope scope t → Spelled (any_line scope (own_scope scope t.predicate)) (body_text t) (t.subject, (t.predicate, t.object))
 unfolding encode_utf8
@@ -179,9 +179,9 @@ body_spelled scope t h k =
     let subject = object_spelled scope t.subject h.subject k.0 in
     let predicate = object_spelled (own_scope scope t.predicate) t.predicate h.predicate (in_own_scope scope t.predicate) in
     let object = object_spelled scope t.object h.object k.1 in
-    let gap = spelled_word (codes " ") refl refl refl in
+    let gap = spelled_terminal (codes " ") refl refl refl in
     same_bytes (regroup (term_text t.subject) (term_text t.predicate) (term_text t.object) (codes " ") (codes " ."))
-    (spelled_then subject (spelled_over gap (spelled_then predicate (spelled_over gap (spelled_left object (spelled_word (codes " .") refl refl refl))))))
+    (spelled_then subject (spelled_over gap (spelled_then predicate (spelled_over gap (spelled_left object (spelled_terminal (codes " .") refl refl refl))))))
 
 pub body_is_plain : (scope : Scope) (t : Statement) → IsLawfulTriple t → IsTripleInScope scope t → list_all is_plain (body_text t) ≡ true
 body_is_plain scope t h k = let s = body_spelled scope t h k in subst (λ (bytes : List ℕ). list_all is_plain bytes ≡ true) s.spell (plain_bytes s.characters s.are_plain)
@@ -192,5 +192,5 @@ only_triples scope t v h k line =
     let same : s.characters ≡ chars (body_text t) = chars_from_encodes s.characters (body_text t) (s.characters, (s.are_scalars, s.spell)) s.spell in
     let read : whole (line_at scope) s.characters ≡ Some v = ap (whole (line_at scope)) same ∙ is_line_full scope (body_text t) v line in
     let b = own_scope scope t.predicate in
-    let node = subject_must scope (word (codes " ") ▹ object b ⨾ word (codes " ") ▹ object scope ◃ word (codes " .")) s.characters t.subject (t.predicate, t.object) v s.spelled read in
-    (node, predicate_must scope b (word (codes " ") ▹ object scope ◃ word (codes " .")) s.characters t.subject t.predicate t.object v s.spelled node read (is_iri t.predicate) refl)
+    let node = subject_must scope (terminal (codes " ") ▹ object b ⨾ terminal (codes " ") ▹ object scope ◃ terminal (codes " .")) s.characters t.subject (t.predicate, t.object) v s.spelled read in
+    (node, predicate_must scope b (terminal (codes " ") ▹ object scope ◃ terminal (codes " .")) s.characters t.subject t.predicate t.object v s.spelled node read (is_iri t.predicate) refl)

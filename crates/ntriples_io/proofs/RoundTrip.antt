@@ -23,7 +23,7 @@ use Rattle.ntriples_io.proofs.CuttingLemmas.{and_both}
 use Rattle.ntriples_io.proofs.LineForms.{empty_line}
 use Rattle.ntriples_io.proofs.Once.{text_once}
 use Rattle.ntriples_io.proofs.OnlyTriples.{AreTriples, body_is_plain, only_triples}
-use Rattle.ntriples_io.proofs.Spelled.{Spelled, spelled_word, spelled_then, spelled_made, spelled_over, spelled_left, spelled_some, spelled_none, same_bytes}
+use Rattle.ntriples_io.proofs.Spelled.{Spelled, spelled_terminal, spelled_then, spelled_made, spelled_over, spelled_left, spelled_some, spelled_none, same_bytes}
 use Rattle.ntriples_io.proofs.TermSpelling.{no_space, space, subject_spelled, predicate_spelled, object_spelled, body_text, regroup}
 
 -- ---- a line
@@ -39,7 +39,7 @@ triple_spelled scope t h =
     let subject = subject_spelled scope t.subject h.is_triple.0 h.lawful.subject h.in_scope.0 in
     let predicate = predicate_spelled t.predicate h.is_triple.1 h.lawful.predicate in
     let object = object_spelled scope t.object h.lawful.object h.in_scope.1 in
-    let end = spelled_over space (spelled_left (spelled_word (codes ".") refl refl refl) no_space) in
+    let end = spelled_over space (spelled_left (spelled_terminal (codes ".") refl refl refl) no_space) in
     same_bytes (regroup (term_text t.subject) (term_text t.predicate) (term_text t.object) (codes " ") (codes " ."))
     (spelled_made statement_of (spelled_then subject (spelled_over space (spelled_then predicate (spelled_over space (spelled_left object end))))))
 

@@ -6,7 +6,7 @@ use Rattle.std.specs.Str.{all_scalars}
 use Rattle.std.specs.Char.{IsScalar}
 use Rattle.std.proofs.lemmas.List.Folds.{list_all-append}
 use Rattle.std.proofs.lemmas.Str.{encodes-append}
-use Rattle.grammar_forms.specs.Forms.{Form, word, Then, either, optional, Made, Such, first_of, second_of, ◌▹◌, ◌◃◌}
+use Rattle.grammar_forms.specs.Forms.{Form, terminal, Then, either, optional, Made, Such, Where, first_of, second_of, ◌▹◌, ◌◃◌}
 use Rattle.ntriples_io.specs.Cutting.{is_plain}
 use Rattle.ntriples_io.proofs.CuttingLemmas.{and_both}
 
@@ -39,8 +39,8 @@ class_plain p k (c ∷ cs) h = let both = and_both (p c) (list_all p cs) h in rw
 
 -- ---- words of forms
 
-pub spelled_word : (w : List ℕ) → all_scalars w ≡ true → list_all is_plain w ≡ true → encode_utf8_all w ≡ w → Spelled (word w) w tt
-spelled_word w h k e = record { characters = w; are_scalars = h; are_plain = k; spell = e; spelled = refl }
+pub spelled_terminal : (w : List ℕ) → all_scalars w ≡ true → list_all is_plain w ≡ true → encode_utf8_all w ≡ w → Spelled (terminal w) w tt
+spelled_terminal w h k e = record { characters = w; are_scalars = h; are_plain = k; spell = e; spelled = refl }
 
 pub spelled_then : {A B : Type 0} {P : Form ℕ A} {Q : Form ℕ B} {a b : List ℕ} {v : A} {w : B} → Spelled P a v → Spelled Q b w → Spelled (Then P Q) (a ++ b) (v, w)
 spelled_then h k = record {
@@ -56,6 +56,9 @@ spelled_made f {v} h = record { characters = h.characters; are_scalars = h.are_s
 
 pub spelled_such : {A : Type 0} (p : A → Bool) {P : Form ℕ A} {a : List ℕ} {v : A} → Spelled P a v → p v ≡ true → Spelled (Such p P) a v
 spelled_such p h k = record { characters = h.characters; are_scalars = h.are_scalars; are_plain = h.are_plain; spell = h.spell; spelled = record { spelled = h.spelled; passes = k } }
+
+pub spelled_where : {A : Type 0} (Q : A → Type 0) {P : Form ℕ A} {a : List ℕ} {v : A} → Spelled P a v → Q v → Spelled (Where Q P) a v
+spelled_where Q h k = record { characters = h.characters; are_scalars = h.are_scalars; are_plain = h.are_plain; spell = h.spell; spelled = record { spelled = h.spelled; has = k } }
 
 pub spelled_over : {A B : Type 0} {P : Form ℕ A} {Q : Form ℕ B} {a b : List ℕ} {v : A} {w : B} → Spelled P a v → Spelled Q b w → Spelled (P ▹ Q) (a ++ b) w
 spelled_over h k = spelled_made second_of (spelled_then h k)

@@ -7,13 +7,13 @@ use Rattle.std.proofs.lemmas.List.{append-nil}
 use Rattle.rdf_terms.specs.declared.term.Scope.{Scope}
 use Rattle.rdf_terms.specs.Statement.{Statement}
 use Rattle.rdf_terms.specs.Graph.{Graph, of_list}
-use Rattle.ntriples_io.specs.declared.reader.NtReader.{NtReader}
 use Rattle.ntriples_io.specs.declared.refusal.NtRefusal.{NtRefusal}
 use Rattle.ntriples_io.specs.declared.refusal.NtRefusal.TheVariants.{Syntax, OutOfMemory}
 use Rattle.ntriples_io.specs.Cutting.{is_break, is_plain, Line, Cut, cut, lines_of, ended_of}
 use Rattle.ntriples_io.specs.Lines.{IsLine}
 use Rattle.ntriples_io.specs.Text.{listed, AreLines, IsFirstBad, NtText, IsAnswer, ReadsLine}
-use Rattle.ntriples_io.specs.Feeding.{IsReading, HasReadBy, HasRead}
+use Rattle.ntriples_io.specs.Feeding.{Progress, IsReading, HasReadBy, HasRead}
+use Rattle.ntriples_io.proofs.LineNumbers.{numbered_bad}
 use Rattle.ntriples_io.proofs.CuttingLemmas.{and_both, push_run, push_break, push_lf, cut_run, cut_break, cut_lf, ends_push, run_ends, grows}
 
 -- ---- lines
@@ -112,51 +112,51 @@ last_bad scope xs rest line cr taken ts s none =
 
 -- ---- the state of a reader
 
-pub opened_by : (o : Option NtRefusal) (r : NtReader) (bytes : List ℕ) → o ≡ None → HasReadBy o r bytes → IsReading r.scope bytes r.rest.items r.line r.after_cr r.taken r.triples
+pub opened_by : (o : Option NtRefusal) (r : Progress) (bytes : List ℕ) → o ≡ None → HasReadBy o r bytes → IsReading r.scope bytes r.rest r.line r.after_cr r.taken r.triples
 opened_by None r bytes e h = h
 opened_by (Some f) r bytes e h = absurd cc
 
-pub opened : (r : NtReader) (bytes : List ℕ) → r.refusal ≡ None → HasRead r bytes → IsReading r.scope bytes r.rest.items r.line r.after_cr r.taken r.triples
+pub opened : (r : Progress) (bytes : List ℕ) → r.refusal ≡ None → HasRead r bytes → IsReading r.scope bytes r.rest r.line r.after_cr r.taken r.triples
 opened r bytes e h = opened_by r.refusal r bytes e h
 
-closed_by : (o : Option NtRefusal) (r : NtReader) (bytes : List ℕ) → o ≡ None → IsReading r.scope bytes r.rest.items r.line r.after_cr r.taken r.triples → HasReadBy o r bytes
+closed_by : (o : Option NtRefusal) (r : Progress) (bytes : List ℕ) → o ≡ None → IsReading r.scope bytes r.rest r.line r.after_cr r.taken r.triples → HasReadBy o r bytes
 closed_by None r bytes e h = h
 closed_by (Some f) r bytes e h = absurd cc
 
-pub closed : (r : NtReader) (bytes : List ℕ) → r.refusal ≡ None → HasReadBy None r bytes → HasRead r bytes
+pub closed : (r : Progress) (bytes : List ℕ) → r.refusal ≡ None → HasReadBy None r bytes → HasRead r bytes
 closed r bytes e h = closed_by r.refusal r bytes e h
 
 -- a refusal stays where more comes
-pub refused_longer : (f : NtRefusal) (r : NtReader) (bytes more : List ℕ) → HasReadBy (Some f) r bytes → HasReadBy (Some f) r (bytes ++ more)
+pub refused_longer : (f : NtRefusal) (r : Progress) (bytes more : List ℕ) → HasReadBy (Some f) r bytes → HasReadBy (Some f) r (bytes ++ more)
 refused_longer (Syntax n) r bytes more h = bad_longer r.scope bytes more n h
 refused_longer OutOfMemory r bytes more h = tt
 
-longer_by : (o : Option NtRefusal) (f : NtRefusal) (r : NtReader) (bytes more : List ℕ) → o ≡ Some f → HasReadBy o r bytes → HasReadBy o r (bytes ++ more)
+longer_by : (o : Option NtRefusal) (f : NtRefusal) (r : Progress) (bytes more : List ℕ) → o ≡ Some f → HasReadBy o r bytes → HasReadBy o r (bytes ++ more)
 longer_by None f r bytes more e h = absurd cc
 longer_by (Some g) f r bytes more e h = refused_longer g r bytes more h
 
-pub longer : (r : NtReader) (f : NtRefusal) (bytes more : List ℕ) → r.refusal ≡ Some f → HasRead r bytes → HasRead r (bytes ++ more)
+pub longer : (r : Progress) (f : NtRefusal) (bytes more : List ℕ) → r.refusal ≡ Some f → HasRead r bytes → HasRead r (bytes ++ more)
 longer r f bytes more e h = longer_by r.refusal f r bytes more e h
 
 -- ---- the line that ends is none, or memory ran out
 
-pub bad_step : (f : NtRefusal) (r : NtReader) (xs rest piece : List ℕ) (line : ℕ) (cr : Bool) (taken : ℕ) (ts old new : List Statement) (b : ℕ) → IsReading r.scope xs rest line cr taken ts → is_break b ≡ true → ((b == 10) && cr) ≡ false
+pub bad_step : (f : NtRefusal) (r : Progress) (xs rest piece : List ℕ) (line : ℕ) (cr : Bool) (taken : ℕ) (ts old new : List Statement) (b : ℕ) → IsReading r.scope xs rest line cr taken ts → is_break b ≡ true → ((b == 10) && cr) ≡ false
     → piece ≡ rest → ReadsLine r.scope line piece old new (Err f) → HasReadBy (Some f) r (xs ++ b ∷ [])
 bad_step (Syntax n) r xs rest piece line cr taken ts old new b s h k e bad = rw bad.0 (bad_line r.scope xs rest line cr taken ts b s h k (subst (λ (t : List ℕ). (v : Option Statement) → ¬ (IsLine r.scope t v)) e bad.1))
 bad_step OutOfMemory r xs rest piece line cr taken ts old new b s h k e bad = tt
 
 -- the last line is none, or memory ran out
 pub bad_end : (f : NtRefusal) (scope : Scope) (xs rest piece : List ℕ) (line : ℕ) (cr : Bool) (taken : ℕ) (ts old new : List Statement) → IsReading scope xs rest line cr taken ts → piece ≡ rest → ReadsLine scope line piece old new (Err f) → IsAnswer xs scope (Err f)
-bad_end (Syntax n) scope xs rest piece line cr taken ts old new s e bad = rw bad.0 (last_bad scope xs rest line cr taken ts s (subst (λ (t : List ℕ). (v : Option Statement) → ¬ (IsLine scope t v)) e bad.1))
+bad_end (Syntax n) scope xs rest piece line cr taken ts old new s e bad = rw bad.0 (numbered_bad xs scope line (last_bad scope xs rest line cr taken ts s (subst (λ (t : List ℕ). (v : Option Statement) → ¬ (IsLine scope t v)) e bad.1)))
 bad_end OutOfMemory scope xs rest piece line cr taken ts old new s e bad = tt
 
-refused_by : (o : Option NtRefusal) (f : NtRefusal) (r : NtReader) (xs : List ℕ) → o ≡ Some f → HasReadBy o r xs → IsAnswer xs r.scope (Err f)
+refused_by : (o : Option NtRefusal) (f : NtRefusal) (r : Progress) (xs : List ℕ) → o ≡ Some f → HasReadBy o r xs → IsAnswer xs r.scope (Err f)
 refused_by None f r xs e h = absurd cc
-refused_by (Some (Syntax n)) f r xs e h = let k : Syntax n ≡ f = cc in subst (λ (x : NtRefusal). IsAnswer xs r.scope (Err x)) k (bad_text r.scope xs n h)
+refused_by (Some (Syntax n)) f r xs e h = let k : Syntax n ≡ f = cc in subst (λ (x : NtRefusal). IsAnswer xs r.scope (Err x)) k (numbered_bad xs r.scope n (bad_text r.scope xs n h))
 refused_by (Some OutOfMemory) f r xs e h = let k : OutOfMemory ≡ f = cc in subst (λ (x : NtRefusal). IsAnswer xs r.scope (Err x)) k tt
 
 -- the refusal that is kept is what the whole text is answered
-pub refused_answer : (r : NtReader) (f : NtRefusal) (xs : List ℕ) → r.refusal ≡ Some f → HasRead r xs → IsAnswer xs r.scope (Err f)
+pub refused_answer : (r : Progress) (f : NtRefusal) (xs : List ℕ) → r.refusal ≡ Some f → HasRead r xs → IsAnswer xs r.scope (Err f)
 refused_answer r f xs e h = refused_by r.refusal f r xs e h
 
 -- ---- a run, a break and what is behind them, as bytes of a piece
@@ -168,20 +168,20 @@ step_so_far : (xs front run : List ℕ) (b : ℕ) → ((xs ++ front) ++ run) ++ 
 step_so_far xs front run b = ap (λ (t : List ℕ). t ++ b ∷ []) (append_assoc xs front run) ∙ append_assoc xs (front ++ run) (b ∷ [])
 
 -- after the run and the break
-pub step_read : (r : NtReader) (xs front run : List ℕ) (b : ℕ) → r.refusal ≡ None → HasReadBy None r (((xs ++ front) ++ run) ++ b ∷ []) → HasRead r (xs ++ ((front ++ run) ++ b ∷ []))
+pub step_read : (r : Progress) (xs front run : List ℕ) (b : ℕ) → r.refusal ≡ None → HasReadBy None r (((xs ++ front) ++ run) ++ b ∷ []) → HasRead r (xs ++ ((front ++ run) ++ b ∷ []))
 step_read r xs front run b e h = subst (λ (t : List ℕ). HasRead r t) (step_so_far xs front run b) (closed r (((xs ++ front) ++ run) ++ b ∷ []) e h)
 
 -- after the last run
-pub last_read : (o : Option NtRefusal) (r : NtReader) (xs piece front bytes : List ℕ) → piece ≡ front ++ bytes → HasReadBy o r ((xs ++ front) ++ bytes) → HasReadBy o r (xs ++ piece)
+pub last_read : (o : Option NtRefusal) (r : Progress) (xs piece front bytes : List ℕ) → piece ≡ front ++ bytes → HasReadBy o r ((xs ++ front) ++ bytes) → HasReadBy o r (xs ++ piece)
 last_read o r xs piece front bytes e h = subst (λ (t : List ℕ). HasReadBy o r t) (append_assoc xs front bytes ∙ ap (λ (t : List ℕ). xs ++ t) (sym e)) h
 
 -- refused at the run
-pub run_refused : (f : NtRefusal) (r : NtReader) (xs piece front bytes run after : List ℕ) (b : ℕ) → piece ≡ front ++ bytes → bytes ≡ run ++ b ∷ after → HasReadBy (Some f) r ((xs ++ front) ++ run) → HasReadBy (Some f) r (xs ++ piece)
+pub run_refused : (f : NtRefusal) (r : Progress) (xs piece front bytes run after : List ℕ) (b : ℕ) → piece ≡ front ++ bytes → bytes ≡ run ++ b ∷ after → HasReadBy (Some f) r ((xs ++ front) ++ run) → HasReadBy (Some f) r (xs ++ piece)
 run_refused f r xs piece front bytes run after b p q h =
     last_read (Some f) r xs piece front bytes p (subst (λ (t : List ℕ). HasReadBy (Some f) r t) (append_assoc (xs ++ front) run (b ∷ after) ∙ ap (λ (t : List ℕ). (xs ++ front) ++ t) (sym q)) (refused_longer f r ((xs ++ front) ++ run) (b ∷ after) h))
 
 -- refused at the break
-pub break_refused : (f : NtRefusal) (r : NtReader) (xs piece front bytes run after : List ℕ) (b : ℕ) → piece ≡ front ++ bytes → bytes ≡ run ++ b ∷ after → HasReadBy (Some f) r (((xs ++ front) ++ run) ++ b ∷ []) → HasReadBy (Some f) r (xs ++ piece)
+pub break_refused : (f : NtRefusal) (r : Progress) (xs piece front bytes run after : List ℕ) (b : ℕ) → piece ≡ front ++ bytes → bytes ≡ run ++ b ∷ after → HasReadBy (Some f) r (((xs ++ front) ++ run) ++ b ∷ []) → HasReadBy (Some f) r (xs ++ piece)
 break_refused f r xs piece front bytes run after b p q h =
     let whole : (((xs ++ front) ++ run) ++ b ∷ []) ++ after ≡ xs ++ piece =
     ap (λ (t : List ℕ). t ++ after) (step_so_far xs front run b) ∙ append_assoc xs ((front ++ run) ++ b ∷ []) after ∙ ap (λ (t : List ℕ). xs ++ t) (sym (step_parts piece front bytes run after b p q)) in

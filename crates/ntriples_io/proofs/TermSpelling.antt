@@ -11,23 +11,25 @@ use Rattle.std.proofs.lemmas.List.Concat.{flat_map-cons}
 use Rattle.std.proofs.lemmas.List.Folds.{list_all-append}
 use Rattle.std.proofs.lemmas.Slice.Eq.{bytes_eq-Decides}
 use Rattle.std.proofs.lemmas.Str.{encode_ascii}
-use Rattle.grammar_forms.specs.Forms.{Form, One, word, many, Made, Verbatim, optional, either, ◌▹◌}
+use Rattle.grammar_forms.specs.Forms.{Form, One, terminal, many, Made, Verbatim, optional, either, ◌▹◌}
 use Rattle.grammar_forms.specs.Names.{IsNameEnd}
 use Rattle.rdf_terms.specs.declared.term.Scope.{Scope}
 use Rattle.rdf_terms.specs.declared.term.Term.{Term}
 use Rattle.rdf_terms.specs.declared.term.Term.TheVariants.{Iri, Blank, Literal}
 use Rattle.rdf_terms.specs.Statement.{Statement, is_node, is_iri}
 use Rattle.rdf_grammar.specs.declared.dialect.Dialect.TheVariants.{NTriples}
-use Rattle.rdf_grammar.specs.Productions.{is_scalar, is_escape, escape_of, echar, is_iri_char, has_scheme, iri_part, absolute_iri, is_string_char, string_part, string, is_base, is_name_start, is_name_char, is_label_start, label, blank_node_label, subtag, tag, langtag}
-use Rattle.rdf_grammar.specs.Lawful.{lang_string, xsd_string, IsIri, IsLabel, IsTag, IsLiteral, IsLawful}
+use Rattle.rdf_grammar.specs.Productions.{is_scalar, is_escape, escape_of, echar, is_iri_char, BeginsWithScheme, iri_part, absolute_iri, is_string_char, string_part, string, is_base, is_name_start, is_name_char, is_label_start, label, blank_node_label, subtag, tag, langtag}
+use Rattle.rdf_terms.specs.Vocab.Rdf.{lang_string}
+use Rattle.rdf_terms.specs.Vocab.Xsd.{string as xsd_string}
+use Rattle.rdf_grammar.specs.Lawful.{IsIri, IsLabel, IsTag, IsLiteral, IsLawful}
 use Rattle.rdf_grammar.proofs.Lawful.{scalar_is}
 use Rattle.ntriples_io.specs.Cutting.{is_plain}
-use Rattle.ntriples_io.specs.NTriples.{ws, iri, blank, subject, tagged, typed, is_not_lang_string, datatype, kind, kind_of, literal_of, literal, object}
+use Rattle.ntriples_io.specs.NTriples.{ws, iri, blank, subject, of_tag, of_datatype, is_not_lang_string, datatype, kind, kind_of, literal_of, literal, object}
 use Rattle.ntriples_io.specs.CanonicalText.{escaped, quoted, bracketed, kind_text, term_text}
 use Rattle.ntriples_io.specs.RoundTrip.{IsInScope}
 use Rattle.ntriples_io.proofs.CuttingLemmas.{and_both}
 use Rattle.ntriples_io.proofs.Utf8Bytes.{escaped_text}
-use Rattle.ntriples_io.proofs.Spelled.{Spelled, IsPlainClass, scalars-append, plain-append, class_scalars, class_plain, spelled_word, spelled_then, spelled_made, spelled_such, spelled_over, spelled_left, spelled_first, spelled_second, spelled_some, spelled_none, same_meaning}
+use Rattle.ntriples_io.proofs.Spelled.{Spelled, IsPlainClass, scalars-append, plain-append, class_scalars, class_plain, spelled_terminal, spelled_then, spelled_made, spelled_such, spelled_where, spelled_over, spelled_left, spelled_first, spelled_second, spelled_some, spelled_none, same_meaning}
 
 -- ---- IRIs
 
@@ -59,7 +61,7 @@ iri_spelled i h =
       spelled = iri_parts h.characters h.each;
     } in
     let inner = same_meaning h.spell (spelled_made encode_utf8_all parts) in
-    spelled_such has_scheme (spelled_over (spelled_word (codes "<") refl refl refl) (spelled_left inner (spelled_word (codes ">") refl refl refl))) h.scheme
+    spelled_where BeginsWithScheme (spelled_over (spelled_terminal (codes "<") refl refl refl) (spelled_left inner (spelled_terminal (codes ">") refl refl refl))) h.scheme
 
 -- ---- strings
 
@@ -126,7 +128,7 @@ string_spelled text u =
       spelled = k.parts;
     } in
     let inner = same_meaning u.1.1 (spelled_made encode_utf8_all parts) in
-    spelled_over (spelled_word (34 ∷ []) refl refl refl) (spelled_left inner (spelled_word (34 ∷ []) refl refl refl))
+    spelled_over (spelled_terminal (34 ∷ []) refl refl refl) (spelled_left inner (spelled_terminal (34 ∷ []) refl refl refl))
 
 -- ---- labels
 
@@ -179,7 +181,7 @@ label_spelled l h =
       spell = h.spell;
       spelled = record { own = tt; spelled = h.is_label; means = refl };
     } in
-    spelled_over (spelled_word (codes "_:") refl refl refl) (same_meaning h.spell (spelled_made encode_utf8_all text))
+    spelled_over (spelled_terminal (codes "_:") refl refl refl) (same_meaning h.spell (spelled_made encode_utf8_all text))
 
 -- ---- language tags
 
@@ -242,7 +244,7 @@ tag_spelled t h =
       spelled = record { own = tt; spelled = h.is_tag; means = refl };
     } in
     let means : str_to_ascii_lowercase (encode_utf8_all t) ≡ t = ap str_to_ascii_lowercase ascii ∙ h.lower in
-    spelled_over (spelled_word (codes "@") refl refl refl) (same_meaning means (spelled_made str_to_ascii_lowercase (spelled_made encode_utf8_all text)))
+    spelled_over (spelled_terminal (codes "@") refl refl refl) (same_meaning means (spelled_made str_to_ascii_lowercase (spelled_made encode_utf8_all text)))
 
 -- ---- literals
 
@@ -276,15 +278,15 @@ datatype_spelled d h other true e =
     same_meaning (ap (λ (x : List ℕ). (x, None)) (sym same)) (spelled_made kind_of (spelled_none (ws ▹ kind)))
 datatype_spelled d h other false e =
     let iri = spelled_such is_not_lang_string (iri_spelled d h) (not_lang_string d other) in
-    let behind = spelled_made typed (spelled_over (spelled_word (codes "^^") refl refl refl) (spelled_over no_space iri)) in
-    spelled_made kind_of (spelled_some (spelled_over no_space (spelled_second (Made tagged langtag) behind)))
+    let behind = spelled_made of_datatype (spelled_over (spelled_terminal (codes "^^") refl refl refl) (spelled_over no_space iri)) in
+    spelled_made kind_of (spelled_some (spelled_over no_space (spelled_second (Made of_tag langtag) behind)))
 
 kind_spelled : (l d : List ℕ) (t : Option (List ℕ)) → IsLiteral l d t → Spelled kind_or_none (kind_text d t) (d, t)
 kind_spelled l d None h = datatype_spelled d h.iri (λ e. let some = h.tagged.0 e in absurd cc) (pointwise nat_eq d xsd_string) refl
 kind_spelled l d (Some t) h =
     let same : d ≡ lang_string = h.tagged.1 refl in
-    let tag = spelled_made tagged (tag_spelled t h.lower) in
-    same_meaning (ap (λ (x : List ℕ). (x, Some t)) (sym same)) (spelled_made kind_of (spelled_some (spelled_over no_space (spelled_first (Made typed (word (codes "^^") ▹ ws ▹ datatype)) tag))))
+    let tag = spelled_made of_tag (tag_spelled t h.lower) in
+    same_meaning (ap (λ (x : List ℕ). (x, Some t)) (sym same)) (spelled_made kind_of (spelled_some (spelled_over no_space (spelled_first (Made of_datatype (terminal (codes "^^") ▹ ws ▹ datatype)) tag))))
 
 literal_spelled : (l d : List ℕ) (t : Option (List ℕ)) → IsLiteral l d t → Spelled literal (quoted l ++ kind_text d t) (Literal l d t)
 literal_spelled l d t h = spelled_made literal_of (spelled_then (string_spelled l h.text) (kind_spelled l d t h))

@@ -9,7 +9,7 @@ use Rattle.rdf_terms.specs.declared.term.Term.{Term}
 use Rattle.rdf_terms.specs.declared.term.Term.TheVariants.{Iri, Blank, Literal}
 use Rattle.rdf_terms.specs.Statement.{Statement}
 use Rattle.rdf_terms.specs.Graph.{Graph, triples}
-use Rattle.rdf_grammar.specs.Lawful.{xsd_string}
+use Rattle.rdf_terms.specs.Vocab.Xsd.{string as xsd_string}
 
 abbrev pub quote : ℕ
 quote = 34
@@ -54,7 +54,8 @@ term_text (Literal lexical datatype tag) = quoted lexical ++ kind_text datatype 
 
 -- a triple's line
 abbrev pub line_text : Statement → List ℕ
-line_text t = ((((term_text t.subject ++ codes " ") ++ term_text t.predicate) ++ codes " ") ++ term_text t.object) ++ codes " ." ++ line_feed ∷ []
+line_text t =
+    ((((term_text t.subject ++ codes " ") ++ term_text t.predicate) ++ codes " ") ++ term_text t.object) ++ codes " ." ++ line_feed ∷ []
 
 -- the lines of a graph
 abbrev pub graph_text : Graph → List ℕ

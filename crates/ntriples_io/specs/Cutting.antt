@@ -1,5 +1,5 @@
 -- The lines of some bytes: the bytes are cut at each CR and each LF (N-Triples, section 7, EOL).
-use Rattle.std.specs.Prelude.{ℕ, ◌+◌, Bool, true, false, cond, not, ◌&&◌, ◌||◌, ◌==◌, List, [], ◌∷◌, ◌++◌}
+use Rattle.std.specs.Prelude.{◌≡◌, ℕ, ◌+◌, Bool, true, false, cond, not, ◌&&◌, ◌||◌, ◌==◌, List, [], ◌∷◌, ◌++◌}
 
 abbrev pub is_break : ℕ → Bool
 is_break b = (b == 10) || (b == 13)
@@ -39,7 +39,10 @@ begins_first b (k ∷ ls) l = record { ended = record { number = k.number; piece
 -- the cut of bytes whose first line has this number
 unfoldable pub cut : ℕ → List ℕ → Cut
 cut n [] = record { ended = []; last = record { number = n; piece = [] } }
-cut n (b ∷ bs) = cond (is_break b) (ends_first (record { number = n; piece = [] }) (cut (after_break n b bs) bs)) (begins_first b (cut n bs).ended (cut n bs).last)
+cut n (b ∷ bs) =
+    cond (is_break b)
+    (ends_first (record { number = n; piece = [] }) (cut (after_break n b bs) bs))
+    (begins_first b (cut n bs).ended (cut n bs).last)
 
 -- the lines of a whole text, and those that ended within the bytes so far
 abbrev pub lines_of : List ℕ → List Line
@@ -52,3 +55,22 @@ abbrev pub ends_in_cr : List ℕ → Bool
 ends_in_cr [] = false
 ends_in_cr (b ∷ []) = b == 13
 ends_in_cr (b ∷ c ∷ bs) = ends_in_cr (c ∷ bs)
+
+-- ---- the numbers of lines, in the words of docs/SPECIFICATION.md
+
+abbrev pub lf_count : List ℕ → ℕ
+lf_count [] = 0
+lf_count (b ∷ bs) = cond (b == 10) 1 0 + lf_count bs
+
+-- the CR bytes among the first of these that no LF follows
+abbrev pub lone_cr_count : List ℕ → List ℕ → ℕ
+lone_cr_count [] rest = 0
+lone_cr_count (b ∷ bs) rest = cond ((b == 13) && not (begins_with_lf (bs ++ rest))) 1 0 + lone_cr_count bs rest
+
+-- The piece stands in the bytes, and this is 1, plus the LF bytes before it, plus the CR bytes before it that no
+-- LF follows.
+pub record IsNumbered (bytes piece : List ℕ) (number : ℕ) : Type 0 where
+  pub front : List ℕ
+  pub rest : List ℕ
+  pub parts : bytes ≡ front ++ (piece ++ rest)
+  pub count : number ≡ 1 + lf_count front + lone_cr_count front (piece ++ rest)

@@ -1,12 +1,13 @@
 -- What a text of N-Triples means, and which line is the first that is none.
-use Rattle.std.specs.Prelude.{◌≡◌, ℕ, IsTrue, List, [], ◌∷◌, ◌++◌, Option, Some, None, Result, Ok, Err}
+use Rattle.std.specs.Prelude.{◌≡◌, ℕ, Bool, true, false, IsTrue, List, [], ◌∷◌, ◌++◌, Option, Some, None, Result, Ok, Err}
 use Rattle.rdf_terms.specs.declared.term.Scope.{Scope}
 use Rattle.rdf_terms.specs.Statement.{Statement}
+use Rattle.rdf_terms.specs.Answers.{IsMeant, IsOnlyMeant}
 use Rattle.rdf_terms.specs.Graph.{Graph, has, of_list}
 use Rattle.rdf_grammar.specs.Lawful.{IsLawfulTriple}
 use Rattle.ntriples_io.specs.declared.refusal.NtRefusal.{NtRefusal}
 use Rattle.ntriples_io.specs.declared.refusal.NtRefusal.TheVariants.{Syntax, OutOfMemory}
-use Rattle.ntriples_io.specs.Cutting.{Line, lines_of}
+use Rattle.ntriples_io.specs.Cutting.{Line, lines_of, IsNumbered}
 use Rattle.ntriples_io.specs.Lines.{IsLine}
 
 abbrev pub listed : Option Statement → List Statement
@@ -43,8 +44,9 @@ pub record NtText (bytes : List ℕ) (scope : Scope) (g : Graph) : Type 0 where
   pub is_set : g ≡ of_list triples
 
 -- the first line of the text that is none of N-Triples has this number
-abbrev pub BadLine : List ℕ → Scope → ℕ → Type 0
-BadLine bytes scope n = IsFirstBad scope (lines_of bytes) n
+pub record BadLine (bytes : List ℕ) (scope : Scope) (n : ℕ) : Type 0 where
+  pub first : IsFirstBad scope (lines_of bytes) n
+  pub number : IsNumbered bytes first.bad n
 
 -- what the reading of a text answers: its graph, or its first line that is none of N-Triples
 abbrev pub TextMeans : List ℕ → Scope → Result Graph NtRefusal → Type 0
@@ -52,23 +54,21 @@ TextMeans bytes scope (Ok g) = NtText bytes scope g
 TextMeans bytes scope (Err (Syntax n)) = BadLine bytes scope n
 TextMeans bytes scope (Err OutOfMemory) = ⊥
 
--- want of memory says nothing
-abbrev pub UnlessMemory : Result Graph NtRefusal → Type 0 → Type 0
-UnlessMemory (Ok g) P = P
-UnlessMemory (Err (Syntax n)) P = P
-UnlessMemory (Err OutOfMemory) P = Unit {0}
+abbrev pub is_memory : NtRefusal → Bool
+is_memory (Syntax n) = false
+is_memory OutOfMemory = true
 
 abbrev pub IsAnswer : List ℕ → Scope → Result Graph NtRefusal → Type 0
-IsAnswer bytes scope result = UnlessMemory result (TextMeans bytes scope result)
+IsAnswer bytes scope result = IsMeant is_memory (TextMeans bytes scope) result
 
 -- the text means no other graph and has no other first bad line
 abbrev pub IsOnlyAnswer : List ℕ → Scope → Result Graph NtRefusal → Type 0
-IsOnlyAnswer bytes scope result = (other : Result Graph NtRefusal) → TextMeans bytes scope other → UnlessMemory result (result ≡ other)
+IsOnlyAnswer bytes scope result = IsOnlyMeant is_memory (TextMeans bytes scope) result
 
 -- pieces one after another
-abbrev pub joined : List (List ℕ) → List ℕ
-joined [] = []
-joined (piece ∷ pieces) = piece ++ joined pieces
+abbrev pub pieces_text : List (List ℕ) → List ℕ
+pieces_text [] = []
+pieces_text (piece ∷ pieces) = piece ++ pieces_text pieces
 
 -- each triple of the graph has lawful terms
 abbrev pub AreLawful : Graph → Type 0

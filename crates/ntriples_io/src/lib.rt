@@ -6,10 +6,11 @@ mod line;
 mod pieces;
 mod reader;
 mod refusal;
+mod so_far;
 mod text;
 mod writing;
 
-pub use line::read_line;
+pub use line::parse_line;
 pub use reader::NtReader;
 pub use refusal::NtRefusal;
 pub use text::{read_ntriples, read_pieces};

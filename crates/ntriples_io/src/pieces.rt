@@ -4,8 +4,8 @@ ghost use Rattle.ntriples_io.specs.Cutting.{is_break, is_plain};
 ghost use Rattle.ntriples_io.specs.Text.{ReadsLine};
 
 use crate::NtRefusal;
-use crate::line::read_line;
-use rdf_grammar::ReadError;
+use crate::line::parse_line;
+use rdf_grammar::{ParseError, RecentTexts};
 use rdf_terms::{Scope, Triples};
 use std::alloc::Global;
 
@@ -37,9 +37,10 @@ pub fn split_at_break(bytes: &[u8]) -> Option<(&[u8], u8, &[u8])>
     None
 }
 
-/// Reads the line with this number, and puts its triple behind the others.
-pub fn read_into(
+/// Appends the triple of the line with this number to the others.
+pub fn push_line_triple(
     alloc: Global,
+    texts: &mut RecentTexts,
     scope: Scope,
     line: u64,
     piece: &[u8],
@@ -47,13 +48,13 @@ pub fn read_into(
 ) -> Result<(), NtRefusal>
     ensures { ReadsLine scope line piece.now triples.old triples.new result }
 {
-    match read_line(alloc, scope, piece) {
+    match parse_line(alloc, texts, scope, piece) {
         Ok(None) => Ok(()),
         Ok(Some(triple)) => {
             triples.push(triple)?;
             Ok(())
         }
-        Err(ReadError::NoMatch) => Err(NtRefusal::Syntax { line }),
-        Err(ReadError::OutOfMemory) => Err(NtRefusal::OutOfMemory),
+        Err(ParseError::NoMatch) => Err(NtRefusal::Syntax { line }),
+        Err(ParseError::OutOfMemory) => Err(NtRefusal::OutOfMemory),
     }
 }

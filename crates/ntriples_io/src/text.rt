@@ -1,6 +1,6 @@
 ghost use Rattle.std.specs.Prelude.{◌<◌, ◌^◌, length, IfOk};
 ghost use Rattle.ntriples_io.specs.RoundTrip.{HasScope};
-ghost use Rattle.ntriples_io.specs.Text.{IsAnswer, IsOnlyAnswer, AreLawful, joined};
+ghost use Rattle.ntriples_io.specs.Text.{IsAnswer, IsOnlyAnswer, AreLawful, pieces_text};
 
 use crate::{NtReader, NtRefusal};
 use rdf_terms::{Bytes, Graph, Scope};
@@ -22,9 +22,9 @@ pub fn read_ntriples(alloc: Global, scope: Scope, bytes: &[u8]) -> Result<Graph,
 /// Reads a whole text that comes in pieces. However it is cut, the answer is that of
 /// `read_ntriples` for the pieces one after another.
 pub fn read_pieces(alloc: Global, scope: Scope, pieces: &[Bytes]) -> Result<Graph, NtRefusal>
-    requires { length (joined pieces.now) < 2 ^ 63 }
-    ensures answer { IsAnswer (joined pieces.now) scope result }
-    ensures only { IsOnlyAnswer (joined pieces.now) scope result }
+    requires { length (pieces_text pieces.now) < 2 ^ 63 }
+    ensures answer { IsAnswer (pieces_text pieces.now) scope result }
+    ensures only { IsOnlyAnswer (pieces_text pieces.now) scope result }
     ensures lawful { IfOk result AreLawful }
     ensures scope { IfOk result (HasScope scope) }
 {

@@ -6,12 +6,9 @@ ghost use Rattle.ntriples_io.specs.Text.{NtText, AreLawful};
 ghost use Rattle.ntriples_io.specs.CanonicalText.{escaped, quoted, bracketed, kind_text, term_text, line_text, graph_text};
 ghost use Rattle.ntriples_io.specs.RoundTrip.{IsTriple, IsTripleInScope, HasScope, IsLineOf};
 
+use rdf_terms::vocab::xsd;
 use rdf_terms::{Bytes, Graph, OutOfMemory, Term, Text, Triple};
 use std::alloc::Global;
-
-/// The datatype that is not written, since a string with neither tag nor datatype has it (N-Triples
-/// 2.4).
-const XSD_STRING: &str = "http://www.w3.org/2001/XMLSchema#string";
 
 /// The canonical spelling of a term (RDF 1.1 N-Triples 4), as UTF-8. Any term is written, also one
 /// that no document can spell, as an IRI with a space.
@@ -107,11 +104,12 @@ fn push_tag(out: &mut Bytes, tag: &Text) -> Result<(), OutOfMemory>
     out.append(tag.as_str().as_bytes())
 }
 
-/// A datatype behind its `^^`, and nothing for `xsd:string`.
+/// A datatype behind its `^^`, and nothing for `xsd:string`, which a string with neither tag nor datatype
+/// has (N-Triples 2.4).
 fn push_datatype(out: &mut Bytes, datatype: &Text) -> Result<(), OutOfMemory>
     ensures { OnOk result (out.new ≡ out.old ++ kind_text datatype.now None) }
 {
-    if datatype.as_str() != XSD_STRING {
+    if datatype.as_str() != xsd::STRING {
         out.append(b"^^")?;
         push_iri(out, datatype)?;
     }

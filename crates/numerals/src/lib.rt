@@ -5,7 +5,7 @@ ghost use Rattle.std.specs.Prelude.{◌≡◌, ◌≢◌, ◌<◌, ◌^◌, ℕ,
 
 /// The number below 2^64 that the text spells in decimal digits, without a sign and without a
 /// leading zero. `None` exactly where it spells none so.
-pub fn read_numeral(text: &str) -> Option<u64>
+pub fn parse_numeral(text: &str) -> Option<u64>
     ensures { MatchOption result ((n : ℕ) → n < 2 ^ 64 → text.now ≢ decimal n) (λ n. text.now ≡ decimal n) }
 {
     let digits = text.as_bytes();

@@ -4,7 +4,7 @@ use Rattle.std.specs.Prelude.{encode_utf8_all}
 use Rattle.std.specs.List.{slice_range}
 use Rattle.std.specs.Str.{IsUtf8, IsCharBoundary, chars}
 use Rattle.std.proofs.lemmas.Str.{encodes-append, encodes-chars, IsCharBoundary-at_seam}
-use Rattle.grammar_forms.proofs.Words.{take_front}
+use Rattle.grammar_forms.proofs.Exactness.{take_front}
 use Rattle.rdf_grammar.specs.Answers.{IsRest}
 
 abbrev pub spelled_front : List ℕ → List ℕ → List ℕ

@@ -39,7 +39,7 @@ absolute_iri_lawful a v h =
       characters = parts.own;
       spell = sym (h.spelled.means ∙ inner.means ∙ parts.means);
       each = iri_chars parts.own inner.spelled.front parts.spelled;
-      scheme = h.passes;
+      scheme = h.has;
     }
 
 -- ---- strings

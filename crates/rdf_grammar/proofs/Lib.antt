@@ -1,3 +1,4 @@
 pub mod Fronts
 pub mod Lawful
 pub mod Productions
+pub mod QuotedText

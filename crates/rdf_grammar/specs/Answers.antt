@@ -1,10 +1,10 @@
 -- What a function of the code answers, over a reading function of the characters of a text.
-use Rattle.std.specs.Prelude.{◌≡◌, ℕ, List, ◌++◌, Option, Some, None, Result, Ok, Err}
+use Rattle.std.specs.Prelude.{◌≡◌, ℕ, Bool, encode_utf8_all, List, ◌++◌, Option, Some, None, Result, Ok, Err}
 use Rattle.std.specs.Str.{chars}
 use Rattle.std.specs.Borrow.{Bor}
-use Rattle.grammar_forms.specs.Reading.{Read}
-use Rattle.rdf_grammar.specs.declared.read_error.ReadError.{ReadError}
-use Rattle.rdf_grammar.specs.declared.read_error.ReadError.TheVariants.{OutOfMemory, NoMatch}
+use Rattle.grammar_forms.specs.Reading.{Read, Skips}
+use Rattle.rdf_grammar.specs.declared.parse_error.ParseError.{ParseError}
+use Rattle.rdf_grammar.specs.declared.parse_error.ParseError.TheVariants.{OutOfMemory, NoMatch}
 
 -- the characters end with this rest
 abbrev pub IsRest : List ℕ → List ℕ → Type 0
@@ -21,16 +21,21 @@ GivesRest None r = r ≡ None
 GivesRest (Some s) r = r ≡ Some (tt, chars s.now)
 
 -- want of memory says nothing of the text
-abbrev pub Misses : {B : Type 0} → ReadError → Option B → Type 0
+abbrev pub Misses : {B : Type 0} → ParseError → Option B → Type 0
 Misses OutOfMemory r = Unit {0}
 Misses NoMatch r = r ≡ None
 
 -- as `Gives`, where memory is taken
-abbrev pub GivesOr : {A B : Type 0} → (A → B) → Result (A × Bor (List ℕ)) ReadError → Read ℕ B → Type 0
+abbrev pub GivesOr : {A B : Type 0} → (A → B) → Result (A × Bor (List ℕ)) ParseError → Read ℕ B → Type 0
 GivesOr f (Ok x) r = r ≡ Some (f x.0, chars x.1.now)
 GivesOr f (Err e) r = Misses e r
 
 -- of a function that reads all of a text
-abbrev pub GivesAll : {A B : Type 0} → (A → B) → Result A ReadError → Option B → Type 0
+abbrev pub GivesAll : {A B : Type 0} → (A → B) → Result A ParseError → Option B → Type 0
 GivesAll f (Ok x) r = r ≡ Some (f x)
 GivesAll f (Err e) r = Misses e r
+
+-- the characters of a class before the rest, put behind what was there
+pub record PushesRun (p : ℕ → Bool) (cs rest old new : List ℕ) : Type 0 where
+  pub skips : Skips p cs rest
+  pub bytes : new ≡ old ++ encode_utf8_all skips.run

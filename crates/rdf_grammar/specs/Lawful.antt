@@ -5,22 +5,16 @@ use Rattle.std.specs.Str.{IsUtf8, str_to_ascii_lowercase}
 use Rattle.rdf_terms.specs.declared.term.Term.{Term}
 use Rattle.rdf_terms.specs.declared.term.Term.TheVariants.{Iri, Blank, Literal}
 use Rattle.rdf_terms.specs.Statement.{Statement}
+use Rattle.rdf_terms.specs.Vocab.Rdf.{lang_string}
 use Rattle.rdf_grammar.specs.declared.dialect.Dialect.TheVariants.{NTriples}
-use Rattle.rdf_grammar.specs.Productions.{is_iri_char, has_scheme, label, tag}
-
--- the datatype of a literal with a language tag, and that of a literal with neither a tag nor a datatype
-abbrev pub lang_string : List ℕ
-lang_string = codes "http://www.w3.org/1999/02/22-rdf-syntax-ns#langString"
-
-abbrev pub xsd_string : List ℕ
-xsd_string = codes "http://www.w3.org/2001/XMLSchema#string"
+use Rattle.rdf_grammar.specs.Productions.{is_iri_char, BeginsWithScheme, label, tag}
 
 -- the UTF-8 of IRICHARs that begin with a scheme
 pub record IsIri (bytes : List ℕ) : Type 0 where
   pub characters : List ℕ
   pub spell : encode_utf8_all characters ≡ bytes
   pub each : list_all is_iri_char characters ≡ true
-  pub scheme : has_scheme bytes ≡ true
+  pub scheme : BeginsWithScheme bytes
 
 -- the UTF-8 of a BLANK_NODE_LABEL of N-Triples
 pub record IsLabel (bytes : List ℕ) : Type 0 where

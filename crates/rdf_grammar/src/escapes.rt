@@ -3,10 +3,10 @@ ghost use Rattle.std.specs.Str.{chars};
 ghost use Rattle.rdf_grammar.specs.Answers.{Gives};
 ghost use Rattle.rdf_grammar.specs.Reading.{hex_at, hex2_at, hex4_at, hex8_at, uchar_at, echar_at};
 
-use crate::characters::{first_char, word};
+use crate::characters::{first_char, strip_char};
 
 #[tactic(auto, unfolding(crate::specs::Reading::hex_at))]
-fn hex(text: &str) -> Option<(u32, &str)>
+fn parse_hex(text: &str) -> Option<(u32, &str)>
     ensures gives { Gives (λ d. d) result (hex_at (chars text.now)) }
     ensures small { IfSome result (λ x. x.0 < 16) }
 {
@@ -16,37 +16,37 @@ fn hex(text: &str) -> Option<(u32, &str)>
 }
 
 #[tactic(auto, unfolding(crate::specs::Reading::hex2_at))]
-fn hex2(text: &str) -> Option<(u32, &str)>
+fn parse_hex2(text: &str) -> Option<(u32, &str)>
     ensures gives { Gives (λ d. d) result (hex2_at (chars text.now)) }
     ensures small { IfSome result (λ x. x.0 < 256) }
 {
-    let (a, rest) = hex(text)?;
-    let (b, rest) = hex(rest)?;
+    let (a, rest) = parse_hex(text)?;
+    let (b, rest) = parse_hex(rest)?;
     Some((a * 16 + b, rest))
 }
 
 #[tactic(auto, unfolding(crate::specs::Reading::hex4_at))]
-fn hex4(text: &str) -> Option<(u32, &str)>
+fn parse_hex4(text: &str) -> Option<(u32, &str)>
     ensures gives { Gives (λ d. d) result (hex4_at (chars text.now)) }
     ensures small { IfSome result (λ x. x.0 < 65536) }
 {
-    let (a, rest) = hex2(text)?;
-    let (b, rest) = hex2(rest)?;
+    let (a, rest) = parse_hex2(text)?;
+    let (b, rest) = parse_hex2(rest)?;
     Some((a * 256 + b, rest))
 }
 
 #[tactic(auto, unfolding(crate::specs::Reading::hex8_at))]
-fn hex8(text: &str) -> Option<(u32, &str)>
+fn parse_hex8(text: &str) -> Option<(u32, &str)>
     ensures gives { Gives (λ d. d) result (hex8_at (chars text.now)) }
 {
-    let (a, rest) = hex4(text)?;
-    let (b, rest) = hex4(rest)?;
+    let (a, rest) = parse_hex4(text)?;
+    let (b, rest) = parse_hex4(rest)?;
     Some((a * 65536 + b, rest))
 }
 
 /// UCHAR: `\u` with four or `\U` with eight hexadecimal digits, which name a scalar value.
 #[tactic(auto, unfolding(crate::specs::Reading::uchar_at))]
-pub fn uchar(text: &str) -> Option<(char, &str)>
+pub fn parse_uchar(text: &str) -> Option<(char, &str)>
     ensures { Gives (λ c. c) result (uchar_at (chars text.now)) }
 {
     let (first, rest) = first_char(text)?;
@@ -55,8 +55,8 @@ pub fn uchar(text: &str) -> Option<(char, &str)>
     }
     let (kind, rest) = first_char(rest)?;
     let (code, rest) = match kind {
-        'u' => hex4(rest)?,
-        'U' => hex8(rest)?,
+        'u' => parse_hex4(rest)?,
+        'U' => parse_hex8(rest)?,
         _ => return None,
     };
     let named = char::from_u32(code)?;
@@ -65,10 +65,10 @@ pub fn uchar(text: &str) -> Option<(char, &str)>
 
 /// ECHAR: `\` and one of `t b n r f " ' \`.
 #[tactic(auto, unfolding(crate::specs::Reading::echar_at))]
-pub fn echar(text: &str) -> Option<(char, &str)>
+pub fn parse_echar(text: &str) -> Option<(char, &str)>
     ensures { Gives (λ c. c) result (echar_at (chars text.now)) }
 {
-    let rest = word(text, '\\')?;
+    let rest = strip_char(text, '\\')?;
     let (c, rest) = first_char(rest)?;
     let meant = match c {
         't' => '\t',

@@ -1,11 +1,11 @@
-ghost use Rattle.std.specs.Prelude.{◌≡◌, ◌-◌, Some, string_bytes, length, take, encode_utf8_all};
+ghost use Rattle.std.specs.Prelude.{◌≡◌, Some, string_bytes};
 ghost use Rattle.std.specs.Str.{chars};
-ghost use Rattle.rdf_grammar.specs.Answers.{GivesOr, GivesRest, IsRest};
+ghost use Rattle.rdf_grammar.specs.Answers.{GivesOr, GivesRest};
 ghost use Rattle.rdf_grammar.specs.Productions.{is_base, has_colon, is_name_start, is_name_char, is_label_start};
 ghost use Rattle.rdf_grammar.specs.Reading.{label_end_at, label_at, blank_node_label_at};
 
-use crate::characters::{first_char, word};
-use crate::{Dialect, ReadError};
+use crate::characters::{first_char, front, strip_char};
+use crate::{Dialect, ParseError};
 use std::alloc::Global;
 
 /// PN_CHARS_BASE.
@@ -66,17 +66,9 @@ fn is_label_start(dialect: Dialect, c: char) -> bool
     is_name_start(dialect, c) || c.is_ascii_digit()
 }
 
-/// The text before the rest.
-pub fn front<'a>(text: &'a str, rest: &str) -> &'a str
-    requires { IsRest (chars rest.now) (chars text.now) }
-    ensures { result.now ≡ encode_utf8_all (take (length (chars text.now) - length (chars rest.now)) (chars text.now)) }
-{
-    &text[..text.len() - rest.len()]
-}
-
 /// What stands behind `((PN_CHARS | '.')* PN_CHARS)?`: dots at the end are no part of it.
 #[tactic(auto, unfolding(crate::specs::Reading::label_end_at))]
-fn label_end(dialect: Dialect, text: &str) -> &str
+fn skip_label_end(dialect: Dialect, text: &str) -> &str
     ensures { label_end_at dialect (chars text.now) ≡ Some (tt, chars result.now) }
 {
     let mut rest = text;
@@ -95,29 +87,29 @@ fn label_end(dialect: Dialect, text: &str) -> &str
 }
 
 #[tactic(auto, unfolding(crate::specs::Reading::label_at))]
-fn label(dialect: Dialect, text: &str) -> Option<&str>
+fn skip_label(dialect: Dialect, text: &str) -> Option<&str>
     ensures { GivesRest result (label_at dialect (chars text.now)) }
 {
     let (first, rest) = first_char(text)?;
     if !is_label_start(dialect, first) {
         return None;
     }
-    Some(label_end(dialect, rest))
+    Some(skip_label_end(dialect, rest))
 }
 
 /// BLANK_NODE_LABEL: the label of a blank node, without its `_:`. `NoMatch` where the text does
 /// not begin with one.
 #[tactic(auto, unfolding(crate::specs::Reading::blank_node_label_at))]
-pub fn blank_node_label(
+pub fn parse_blank_node_label(
     alloc: Global,
     dialect: Dialect,
     text: &str,
-) -> Result<(String, &str), ReadError>
+) -> Result<(String, &str), ParseError>
     ensures { GivesOr (λ s. string_bytes s) result (blank_node_label_at dialect (chars text.now)) }
 {
-    let underscore = word(text, '_').ok_or(ReadError::NoMatch)?;
-    let name = word(underscore, ':').ok_or(ReadError::NoMatch)?;
-    let rest = label(dialect, name).ok_or(ReadError::NoMatch)?;
+    let underscore = strip_char(text, '_').ok_or(ParseError::NoMatch)?;
+    let name = strip_char(underscore, ':').ok_or(ParseError::NoMatch)?;
+    let rest = skip_label(dialect, name).ok_or(ParseError::NoMatch)?;
     let label = String::from_str(alloc, front(name, rest))?;
     Ok((label, rest))
 }

@@ -1,94 +1,72 @@
 ghost use Rattle.std.specs.Prelude.{◌≡◌, Some, string_bytes};
+ghost use Rattle.std.specs.Char.{is_ascii_alphabetic, is_ascii_alphanumeric};
 ghost use Rattle.std.specs.Str.{chars};
-ghost use Rattle.rdf_grammar.specs.Answers.{Gives, GivesOr, GivesRest};
-ghost use Rattle.rdf_grammar.specs.Reading.{letter_at, letters_at, alnum_at, alnums_at, subtag_at, subtags_at, tag_at, langtag_at};
+ghost use Rattle.rdf_grammar.specs.Answers.{GivesOr, GivesRest};
+ghost use Rattle.rdf_grammar.specs.Reading.{subtag_at, subtags_at, tag_at, langtag_at};
 
-use crate::ReadError;
-use crate::characters::{first_char, word};
-use crate::labels::front;
+use crate::ParseError;
+use crate::characters::{CharClass, front, skip_some, strip_char};
 use std::alloc::Global;
 
-#[tactic(auto, unfolding(crate::specs::Reading::letter_at))]
-fn letter(text: &str) -> Option<(char, &str)>
-    ensures gives { Gives (λ c. c) result (letter_at (chars text.now)) }
-{
-    let (c, rest) = first_char(text)?;
-    if c.is_ascii_alphabetic() {
-        Some((c, rest))
-    } else {
-        None
+/// ASCII letters.
+#[derive(Clone, Copy, Debug)]
+pub struct Letters;
+
+impl CharClass for Letters {
+    ghost test = { λ _. is_ascii_alphabetic };
+
+    fn contains(&self, c: char) -> bool {
+        c.is_ascii_alphabetic()
     }
 }
 
-#[tactic(auto, unfolding(crate::specs::Reading::letters_at))]
-fn letters(text: &str) -> Option<&str>
-    ensures { GivesRest result (letters_at (chars text.now)) }
-{
-    let (_first, mut rest) = letter(text)?;
-    while let Some((_next, after)) = letter(rest) {
-        rest = after;
-    }
-    Some(rest)
-}
+/// ASCII letters and digits.
+#[derive(Clone, Copy, Debug)]
+pub struct Alphanumerics;
 
-#[tactic(auto, unfolding(crate::specs::Reading::alnum_at))]
-fn alnum(text: &str) -> Option<(char, &str)>
-    ensures gives { Gives (λ c. c) result (alnum_at (chars text.now)) }
-{
-    let (c, rest) = first_char(text)?;
-    if c.is_ascii_alphanumeric() {
-        Some((c, rest))
-    } else {
-        None
-    }
-}
+impl CharClass for Alphanumerics {
+    ghost test = { λ _. is_ascii_alphanumeric };
 
-#[tactic(auto, unfolding(crate::specs::Reading::alnums_at))]
-fn alnums(text: &str) -> Option<&str>
-    ensures { GivesRest result (alnums_at (chars text.now)) }
-{
-    let (_first, mut rest) = alnum(text)?;
-    while let Some((_next, after)) = alnum(rest) {
-        rest = after;
+    fn contains(&self, c: char) -> bool {
+        c.is_ascii_alphanumeric()
     }
-    Some(rest)
 }
 
 #[tactic(auto, unfolding(crate::specs::Reading::subtag_at))]
-fn subtag(text: &str) -> Option<&str>
+fn skip_subtag(text: &str) -> Option<&str>
     ensures { GivesRest result (subtag_at (chars text.now)) }
 {
-    let rest = word(text, '-')?;
-    alnums(rest)
+    let rest = strip_char(text, '-')?;
+    skip_some(&Alphanumerics, rest)
 }
 
 #[tactic(auto, unfolding(crate::specs::Reading::subtags_at))]
-fn subtags(text: &str) -> &str
+fn skip_subtags(text: &str) -> &str
     ensures { subtags_at (chars text.now) ≡ Some (tt, chars result.now) }
 {
     let mut rest = text;
-    while let Some(after) = subtag(rest) {
+    'subtags: while let Some(after) = skip_subtag(rest) {
         rest = after;
     }
     rest
 }
 
 #[tactic(auto, unfolding(crate::specs::Reading::tag_at))]
-fn tag(text: &str) -> Option<&str>
+fn skip_tag(text: &str) -> Option<&str>
     ensures { GivesRest result (tag_at (chars text.now)) }
 {
-    let rest = letters(text)?;
-    Some(subtags(rest))
+    let rest = skip_some(&Letters, text)?;
+    Some(skip_subtags(rest))
 }
 
 /// LANGTAG: a language tag in lower case, without its `@`. `NoMatch` where the text does not begin
 /// with one.
 #[tactic(auto, unfolding(crate::specs::Reading::langtag_at))]
-pub fn langtag(alloc: Global, text: &str) -> Result<(String, &str), ReadError>
+pub fn parse_langtag(alloc: Global, text: &str) -> Result<(String, &str), ParseError>
     ensures { GivesOr (λ s. string_bytes s) result (langtag_at (chars text.now)) }
 {
-    let spelled = word(text, '@').ok_or(ReadError::NoMatch)?;
-    let rest = tag(spelled).ok_or(ReadError::NoMatch)?;
+    let spelled = strip_char(text, '@').ok_or(ParseError::NoMatch)?;
+    let rest = skip_tag(spelled).ok_or(ParseError::NoMatch)?;
     let lower = front(spelled, rest).to_ascii_lowercase(alloc)?;
     Ok((lower, rest))
 }

@@ -1,11 +1,14 @@
 -- What is in a graph that was made from others, and that a graph is the set of its triples.
-use Rattle.std.proofs.Common.{◌≡◌, ℕ, ◌+◌, ◌<◌, Some, slice_get, true, false, not, ◌&&◌, ◌||◌, IsTrue, List, length, Contains}
+use Rattle.std.proofs.Common.{◌≡◌, ℕ, ◌+◌, ◌<◌, Some, slice_get, true, false, not, ◌&&◌, ◌||◌, IsTrue, List, [], ◌∷◌, length, Contains, ◌↔◌, refl, sym, ap, ◌∙◌}
 use Rattle.std.specs.declared.cmp.Ordering.TheVariants.{Less}
 use Rattle.std.specs.Ordering.{eq_by_cmp}
 use Rattle.std.specs.List.{list_any}
+use Rattle.std.specs.Cmp.Lexicographic.{pointwise}
 use Rattle.rdf_terms.specs.Statement.{Statement, statement_cmp}
-use Rattle.rdf_terms.specs.Graph.{Graph, triples, has, with, empty, including, of_list, without, edited, is_rising}
+use Rattle.rdf_terms.specs.Graph.{Graph, triples, has, with, empty, including, of_list, without, edited, is_rising, graph_of, same_triples}
 use Rattle.rdf_terms.specs.TermOrder.{statement_cmp_total, statement_cmp-IsAntisymmetric}
+use Rattle.rdf_terms.proofs.Bools.{both_left, both_right, both_true}
+use Rattle.rdf_terms.proofs.Orders.{statement_tied, same_statement}
 use Rattle.rdf_terms.proofs.Membership as sets
 
 pub has-empty : (t : Statement) → has empty t ≡ false
@@ -43,6 +46,9 @@ same_within a b there back = sets.same_within statement_cmp_total statement_cmp-
 pub triples_rise : (g : Graph) → is_rising (triples g) ≡ true
 triples_rise g = sets.items_rise g
 
+pub graph_of-triples : (g : Graph) → graph_of (triples g) ≡ g
+graph_of-triples g = sets.of_rising-items statement_cmp_total statement_cmp-IsAntisymmetric g
+
 pub has-triples : (g : Graph) (t : Statement) → has g t ≡ list_any (eq_by_cmp statement_cmp t) (triples g)
 has-triples g t = sets.has-items g t
 
@@ -51,6 +57,9 @@ has_listed g t h = sets.has_item statement_cmp_total statement_cmp-IsAntisymmetr
 
 pub listed_of_has : (g : Graph) (t : Statement) → has g t ≡ true → Contains (triples g) t
 listed_of_has g t h = sets.item_of_has statement_cmp_total statement_cmp-IsAntisymmetric g t h
+
+pub triples_is : (g : Graph) (t : Statement) → IsTrue (has g t) ↔ Contains (triples g) t
+triples_is g t = (listed_of_has g t, has_listed g t)
 
 pub has_at : (g : Graph) (t : Statement) (i : ℕ) → slice_get (triples g) i ≡ Some t → has g t ≡ true
 has_at g t i h = sets.has_at statement_cmp_total statement_cmp-IsAntisymmetric g t i h
@@ -70,6 +79,27 @@ has_of_list_item ts t h = sets.has_of_list_item statement_cmp_total ts t h
 
 pub item_of_has_list : (ts : List Statement) (t : Statement) → has (of_list ts) t ≡ true → Contains ts t
 item_of_has_list ts t h = sets.item_of_has_list statement_cmp_total statement_cmp-IsAntisymmetric ts t h
+
+-- the graph of a list has exactly its triples
+pub of_list_is : (ts : List Statement) (t : Statement) → IsTrue (has (of_list ts) t) ↔ Contains ts t
+of_list_is ts t = (item_of_has_list ts t, has_of_list_item ts t)
+
+-- graphs that list the same triples are equal
+pub same_triples_is : (g h : Graph) → IsTrue (same_triples g h) ↔ (g ≡ h)
+same_triples_is g h = (λ e. sym (graph_of-triples g) ∙ ap graph_of (lists (triples g) (triples h) e) ∙ graph_of-triples h, λ e. ap (same_triples g) (sym e) ∙ itself (triples g))
+  where
+    itself : (ts : List Statement) → pointwise (eq_by_cmp statement_cmp) ts ts ≡ true
+    itself [] = refl
+    itself (t ∷ ts) = both_true _ _ (statement_tied t) (itself ts)
+
+    lists : (ts us : List Statement) → pointwise (eq_by_cmp statement_cmp) ts us ≡ true → ts ≡ us
+    lists [] [] e = refl
+    lists [] (u ∷ us) e = cc
+    lists (t ∷ ts) [] e = cc
+    lists (t ∷ ts) (u ∷ us) e = let same = same_statement t u (both_left _ _ e) in let rest = lists ts us (both_right _ _ e) in (λ i. same i ∷ rest i)
+
+pub equal_has : (g h : Graph) → (g ≡ h) ↔ ((t : Statement) → has g t ≡ has h t)
+equal_has g h = (λ e t. ap (λ k. has k t) e, same_graph g h)
 
 pub with_present : (g : Graph) (t : Statement) → has g t ≡ true → with g t ≡ g
 with_present g t h = sets.with_present statement_cmp_total statement_cmp-IsAntisymmetric g t h

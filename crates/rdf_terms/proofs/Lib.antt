@@ -1,6 +1,14 @@
+pub mod Bools
+pub mod Counting
 pub mod GraphLaws
+pub mod Keys
+pub mod Members
 pub mod Membership
-pub mod Merges
 pub mod NodesLaws
+pub mod ObjectPlaces
+pub mod Orders
+pub mod Parts
 pub mod Ranges
 pub mod Sets
+pub mod Ties
+pub mod Values

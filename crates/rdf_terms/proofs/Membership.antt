@@ -2,48 +2,28 @@
 use Rattle.std.proofs.Common.{◌≡◌, ℕ, zero, suc, ◌+◌, ◌<◌, ◌≤◌, ◌⊎◌, inl, inr, Bool, true, false, cond, not, ◌&&◌, ◌||◌, IsTrue, T, List, [], ◌∷◌, ◌++◌, map, length, slice_get, Option, Some, None, refl, sym, ap, ◌∙◌, subst, is_some, Contains, arith}
 use Rattle.std.specs.declared.cmp.Ordering.{Ordering}
 use Rattle.std.specs.declared.cmp.Ordering.TheVariants.{Less, Equal, Greater}
-use Rattle.std.specs.Ordering.{is_eq, is_lt, eq_by_cmp}
-use Rattle.std.specs.Cmp.{IsTotalOrder, tied_itself}
-use Rattle.std.specs.List.{list_any}
+use Rattle.std.specs.Ordering.{is_eq, eq_by_cmp}
+use Rattle.std.specs.Cmp.{IsTotalOrder, IsEquivalence, tied_itself}
+use Rattle.std.specs.List.{list_any, filter, dedup}
+use Rattle.std.specs.List.Retain.{IsFiltered, DiffersFromLast}
 use Rattle.std.proofs.lemmas.Cmp.{eq_by_cmp_equiv}
 use Rattle.std.proofs.lemmas.Map.Views.{list_any-from_Contains, Contains-from_any}
-use Rattle.std.specs.List.Sorted.{IsPermutation}
+use Rattle.std.specs.List.Sorted.{IsPermutation, IsSorted}
+use Rattle.std.proofs.Math.Path.{fun_ext}
+use Rattle.std.proofs.lemmas.List.Folds.{list_any-append}
+use Rattle.std.proofs.lemmas.List.Filters.{dedup_is}
+use Rattle.std.proofs.lemmas.List.Kept.{IsStrictlySortedBy-dedup, Contains-dedup, Contains-from_dedup}
 use Rattle.std.proofs.lemmas.List.Sorted.{Contains-permutation, IsPermutation-sym}
 use Rattle.std.specs.FinMap as finite
 use Rattle.std.specs.FinMap.{IsAntisymmetric}
 use Rattle.std.specs.FinMap.Entries.{below_all}
 use Rattle.std.proofs.lemmas.Option.{slice_get_within, get_or_from_slice_get, slice_get-get_or}
-use Rattle.rdf_terms.specs.Set.{Set, is_rising, items, has, with, including, of_list, without, edited, empty, marked}
-
-or_right : (a b : Bool) → b ≡ true → (a || b) ≡ true
-or_right true b e = refl
-or_right false b e = e
-
-or_false : (a : Bool) → (a || false) ≡ a
-or_false true = refl
-or_false false = refl
-
-equal_of : (r : Ordering) → is_eq r ≡ true → r ≡ Equal
-equal_of Less e = cc
-equal_of Equal e = refl
-equal_of Greater e = cc
-
-both_left : (a b : Bool) → (a && b) ≡ true → a ≡ true
-both_left true b e = refl
-both_left false b e = e
-
-both_right : (a b : Bool) → (a && b) ≡ true → b ≡ true
-both_right true b e = e
-both_right false b e = cc
-
-less_of : (o : Ordering) → is_lt o ≡ true → o ≡ Less
-less_of Less e = refl
-less_of Equal e = cc
-less_of Greater e = cc
-
-true_of : (b : Bool) → T b → b ≡ true
-true_of true h = refl
-true_of false h = absurd h
+use Rattle.rdf_terms.proofs.Bools.{true_of, both_left, both_right, both_true, either_right, or_false, or_swap, alike}
+use Rattle.rdf_terms.proofs.Orders.{lt_or_le, less_of, equal_of}
+use Rattle.rdf_terms.proofs.Members.{in_filter, filter_in}
+use Rattle.rdf_terms.proofs.Sets as sets
+use Rattle.rdf_terms.proofs.Sets.{items-of_rising, has-of_rising, rising-filter, rising_of_strict}
+use Rattle.rdf_terms.specs.Set.{Set, is_rising, of_rising, items, has, with, including, of_list, without, edited, empty, marked}
 
 pub has-empty : {K : Type 0} (R : K → K → Ordering) (q : K) → has (empty {R = R}) q ≡ false
 has-empty R q = ap is_some (finite.get-empty R q)
@@ -72,16 +52,11 @@ module _ {K : Type 0} {R : K → K → Ordering} (o : IsTotalOrder R) where
   has_with_same s x = has-with s x x ∙ ap (λ r. is_eq r || has s x) (tied_itself o x)
 
   pub has_with_kept : (s : Set R) (x q : K) → has s q ≡ true → has (with s x) q ≡ true
-  has_with_kept s x q h = has-with s x q ∙ or_right _ _ h
+  has_with_kept s x q h = has-with s x q ∙ either_right _ _ h
 
   pub has-including : (s : Set R) (xs : List K) (q : K) → has (including s xs) q ≡ (has s q || list_any (eq_by_cmp R q) xs)
   has-including s [] q = sym (or_false (has s q))
-  has-including s (x ∷ xs) q = has-with (including s xs) x q ∙ ap (λ b. eq_by_cmp R q x || b) (has-including s xs q) ∙ swap_or (eq_by_cmp R q x) (has s q) (list_any (eq_by_cmp R q) xs)
-    where
-      swap_or : (a b c : Bool) → (a || (b || c)) ≡ (b || (a || c))
-      swap_or true true c = refl
-      swap_or true false c = refl
-      swap_or false b c = refl
+  has-including s (x ∷ xs) q = has-with (including s xs) x q ∙ ap (λ b. eq_by_cmp R q x || b) (has-including s xs q) ∙ or_swap (eq_by_cmp R q x) (has s q) (list_any (eq_by_cmp R q) xs)
 
   pub has-of_list : (xs : List K) (q : K) → has (of_list {R = R} xs) q ≡ list_any (eq_by_cmp R q) xs
   has-of_list xs q = has-including empty xs q ∙ ap (λ b. b || list_any (eq_by_cmp R q) xs) (has-empty R q)
@@ -150,9 +125,6 @@ module _ {K : Type 0} {R : K → K → Ordering} (o : IsTotalOrder R) (same : Is
   pub one_place : (s : Set R) (x : K) (i j : ℕ) → slice_get (items s) i ≡ Some x → slice_get (items s) j ≡ Some x → i ≡ j
   one_place s x i j h k = at (lt_or_le i j) (lt_or_le j i)
     where
-      lt_or_le : (k i : ℕ) → (k < i) ⊎ (i ≤ k)
-      lt_or_le k i = grind arith
-
       never : R x x ≡ Less → ⊥
       never e = let t : Equal ≡ Less = sym (tied_itself o x) ∙ e in cc
 
@@ -160,6 +132,13 @@ module _ {K : Type 0} {R : K → K → Ordering} (o : IsTotalOrder R) (same : Is
       at (inl a) b = absurd (never (rises_at s x x i j h k a))
       at (inr a) (inl b) = absurd (never (rises_at s x x j i k h b))
       at (inr a) (inr b) = omega arith
+
+  -- what is in the set of a list that rises
+  pub of_rising_has : (xs : List K) (q : K) → is_rising R xs ≡ true → has (of_rising R xs) q ≡ true → Contains xs q
+  of_rising_has xs q h e = Contains-from_any (λ x y e. same x y (equal_of _ e)) q xs (sym (has-of_rising R xs q h) ∙ e)
+
+  pub has_of_rising : (xs : List K) (q : K) → is_rising R xs ≡ true → Contains xs q → has (of_rising R xs) q ≡ true
+  has_of_rising xs q h c = has-of_rising R xs q h ∙ list_any-from_Contains (eq_by_cmp_equiv o) q xs c
 
   -- two sets are equal where the same items are in them
   pub same_set : (a b : Set R) → ((q : K) → has a q ≡ has b q) → a ≡ b
@@ -173,11 +152,6 @@ module _ {K : Type 0} {R : K → K → Ordering} (o : IsTotalOrder R) (same : Is
 
   pub same_within : (a b : Set R) → ((q : K) → IsTrue (has a q) → IsTrue (has b q)) → ((q : K) → IsTrue (has b q) → IsTrue (has a q)) → a ≡ b
   same_within a b there back = same_set a b (λ q. alike (has a q) (has b q) (there q) (back q))
-    where
-      alike : (x y : Bool) → (IsTrue x → IsTrue y) → (IsTrue y → IsTrue x) → x ≡ y
-      alike true y f g = sym (f refl)
-      alike false true f g = g refl
-      alike false false f g = refl
 
   -- inserting an item that is there changes nothing
   pub with_present : (s : Set R) (x : K) → has s x ≡ true → with s x ≡ s
@@ -190,12 +164,7 @@ module _ {K : Type 0} {R : K → K → Ordering} (o : IsTotalOrder R) (same : Is
 
   -- the order of insertions doesn't matter
   pub with_with : (s : Set R) (x y : K) → with (with s x) y ≡ with (with s y) x
-  with_with s x y = same_set _ _ (λ q. has-with o (with s x) y q ∙ ap (λ b. eq_by_cmp R q y || b) (has-with o s x q) ∙ swap_or (eq_by_cmp R q y) (eq_by_cmp R q x) (has s q) ∙ sym (has-with o (with s y) x q ∙ ap (λ b. eq_by_cmp R q x || b) (has-with o s y q)))
-    where
-      swap_or : (a b c : Bool) → (a || (b || c)) ≡ (b || (a || c))
-      swap_or true true c = refl
-      swap_or true false c = refl
-      swap_or false b c = refl
+  with_with s x y = same_set _ _ (λ q. has-with o (with s x) y q ∙ ap (λ b. eq_by_cmp R q y || b) (has-with o s x q) ∙ or_swap (eq_by_cmp R q y) (eq_by_cmp R q x) (has s q) ∙ sym (has-with o (with s y) x q ∙ ap (λ b. eq_by_cmp R q x || b) (has-with o s y q)))
 
   pub including-snoc : (s : Set R) (xs : List K) (y : K) → including s (xs ++ y ∷ []) ≡ with (including s xs) y
   including-snoc s [] y = refl
@@ -207,29 +176,49 @@ module _ {K : Type 0} {R : K → K → Ordering} (o : IsTotalOrder R) (same : Is
       (λ q e. has_of_list_item o xs q (Contains-permutation ys xs q (IsPermutation-sym xs ys h) (item_of_has_list ys q e)))
       (λ q e. has_of_list_item o ys q (Contains-permutation xs ys q h (item_of_has_list xs q e)))
 
+  -- a sorted list without repeats rises, and is the set of the list
+  module _ {E : K → K → Bool} (ties : (x y : K) → E x y ≡ eq_by_cmp R x y) (xs ys zs : List K) (moved : IsPermutation xs ys) (sorted : IsSorted R ys) (left : IsFiltered (DiffersFromLast E) [] ys zs) where
+    once : zs ≡ dedup E ys
+    once = dedup_is E ys zs left
+
+    pub sorted_once_rises : is_rising R zs ≡ true
+    sorted_once_rises = subst (λ us. is_rising R us ≡ true) (sym once) (rising_of_strict R (dedup E ys) (IsStrictlySortedBy-dedup o ties ys sorted))
+
+    pub sorted_once : of_rising R zs ≡ of_list xs
+    sorted_once = same_within _ _
+        (λ q e. has_of_list_item o xs q (Contains-permutation ys xs q (IsPermutation-sym xs ys moved) (Contains-from_dedup E ys q (subst (λ us. Contains us q) once (of_rising_has zs q sorted_once_rises e)))))
+        (λ q e. has_of_rising zs q sorted_once_rises (subst (λ us. Contains us q) (sym once) (Contains-dedup test (λ x y t. same x y (equal_of _ (sym (ties x y) ∙ t))) ys q (Contains-permutation xs ys q moved (item_of_has_list xs q e)))))
+      where
+        test : IsEquivalence E
+        test = subst IsEquivalence (sym (fun_ext (λ x. fun_ext (λ y. ties x y)))) (eq_by_cmp_equiv o)
+
+  -- the items without those of d
+  pub items-without : (s d : Set R) → items (without s d) ≡ filter (λ x. not (has d x)) (items s)
+  items-without s d = sym (ap items equal) ∙ items-of_rising R (filter kept (items s)) rises
+    where
+      kept : K → Bool
+      kept x = not (has d x)
+
+      rises : is_rising R (filter kept (items s)) ≡ true
+      rises = rising-filter R kept (items s) (items_rise s)
+
+      equal : of_rising R (filter kept (items s)) ≡ without s d
+      equal = same_within _ _ (λ q e. there q (filter_in kept (items s) q (of_rising_has (filter kept (items s)) q rises e))) (λ q e. back q (sym (has-without s d q) ∙ e))
+        where
+          there : (q : K) → Contains (items s) q × (kept q ≡ true) → has (without s d) q ≡ true
+          there q k = has-without s d q ∙ both_true (has s q) (kept q) (has_item s q k.0) k.1
+
+          back : (q : K) → (has s q && kept q) ≡ true → has (of_rising R (filter kept (items s))) q ≡ true
+          back q e = has_of_rising (filter kept (items s)) q rises (in_filter kept (items s) q (item_of_has s q (both_left (has s q) (kept q) e)) (both_right (has s q) (kept q) e))
+
+  -- a set is that of its items
+  pub of_rising-items : (s : Set R) → of_rising R (items s) ≡ s
+  of_rising-items s = sets.of_rising-items R s (items_rise s)
+
+  -- the set of the items of s without d, and then of those of a
+  pub of_list-edited : (s a d : Set R) → of_list (items (without s d) ++ items a) ≡ edited s a d
+  of_list-edited s a d = same_set _ _ (λ q. has-of_list o (items (without s d) ++ items a) q ∙ list_any-append (eq_by_cmp R q) (items (without s d)) (items a) ∙ (λ i. sym (has-items (without s d) q) i || sym (has-items a q) i)
+      ∙ (λ i. has-without s d q i || has a q) ∙ sym (has-edited s a d q))
+
   pub of_list-items : (s : Set R) → of_list (items s) ≡ s
   of_list-items s = same_set _ _ (λ q. has-of_list o (items s) q ∙ sym (has-items s q))
-
-  pub without-empty : (d : Set R) → without empty d ≡ empty
-  without-empty d = same_set _ _ (λ q. has-without empty d q ∙ ap (λ b. b && not (has d q)) (has-empty R q) ∙ sym (has-empty R q))
-
-  -- to take one item more and then leave d out
-  pub without-with : (s d : Set R) (x : K) → without (with s x) d ≡ cond (not (has d x)) (with (without s d) x) (without s d)
-  without-with s d x = same_set _ _ (λ q. has-without (with s x) d q ∙ ap (λ b. b && not (has d q)) (has-with o s x q) ∙ at q (R q x) refl (has d x) refl)
-    where
-      at : (q : K) (r : Ordering) → R q x ≡ r → (b : Bool) → has d x ≡ b → ((is_eq r || has s q) && not (has d q)) ≡ has (cond (not b) (with (without s d) x) (without s d)) q
-      at q Less e true h = sym (has-without s d q)
-      at q Greater e true h = sym (has-without s d q)
-      at q Equal e true h = let g : has d q ≡ true = ap (has d) (same q x e) ∙ h in ap not g ∙ sym (has-without s d q ∙ rw g (and_false (has s q)))
-        where
-          and_false : (a : Bool) → (a && false) ≡ false
-          and_false true = refl
-          and_false false = refl
-      at q Less e false h = sym (has-with o (without s d) x q ∙ (λ i. is_eq (e i) || has-without s d q i))
-      at q Greater e false h = sym (has-with o (without s d) x q ∙ (λ i. is_eq (e i) || has-without s d q i))
-      at q Equal e false h = let g : has d q ≡ false = ap (has d) (same q x e) ∙ h in ap not g ∙ sym (has-with o (without s d) x q ∙ ap (λ r. is_eq r || has (without s d) q) e)
-
-  pub including-cond : (b : Bool) (s : Set R) (x : K) (ys : List K) → including (cond b (with s x) s) ys ≡ cond b (with (including s ys) x) (including s ys)
-  including-cond false s x ys = refl
-  including-cond true s x [] = refl
-  including-cond true s x (y ∷ ys) = ap (λ t. with t y) (including-cond true s x ys) ∙ with_with (including s ys) x y

@@ -1,6 +1,10 @@
+pub mod Answers
 pub mod Graph
+pub mod Members
 pub mod Nodes
+pub mod ObjectOrder
 pub mod Set
 pub mod Statement
 pub mod Term
 pub mod TermOrder
+pub mod Vocab

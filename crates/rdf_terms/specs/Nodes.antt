@@ -1,12 +1,12 @@
 -- A set of terms, as the nodes of two graphs.
-use Rattle.std.specs.Prelude.{◌≡◌, ℕ, Bool, List, [], ◌∷◌, ◌++◌, flat_map}
+use Rattle.std.specs.Prelude.{◌≡◌, ◌⊎◌, ℕ, Bool, IsTrue, List, [], ◌∷◌, ◌++◌, flat_map}
 use Rattle.std.specs.declared.cmp.Ordering.TheVariants.{Less, Greater}
 use Rattle.std.specs.List.Sorted.{IsPartitionPoint}
 use base.Stored.{Coded}
 use Rattle.rdf_terms.specs.Set as set
 use Rattle.rdf_terms.specs.Term.{term_cmp}
 use Rattle.rdf_terms.specs.Statement.{Statement}
-use Rattle.rdf_terms.specs.Graph.{Graph, triples}
+use Rattle.rdf_terms.specs.Graph.{Graph, triples, has}
 use Rattle.rdf_terms.specs.declared.term.Term.{Term}
 use Rattle.rdf_terms.specs.contracts.term.Term.{the_row}
 
@@ -52,6 +52,10 @@ nodes_of_list ts = set.of_list ts
 -- the subject and the object of each triple, which are its nodes (RDF 1.1 Concepts 3.1)
 abbrev pub ends : List Statement → List Term
 ends ts = flat_map (λ t. t.subject ∷ t.object ∷ []) ts
+
+-- the term is the subject or the object of a triple of the graph (RDF 1.1 Concepts 3.1)
+abbrev pub IsNodeOf : Graph → Term → Type 0
+IsNodeOf g x = (t : Statement) × IsTrue (has g t) × ((x ≡ t.subject) ⊎ (x ≡ t.object))
 
 -- the nodes of two graphs, and more terms
 abbrev pub nodes_of : Graph → Graph → List Term → Nodes

@@ -27,4 +27,6 @@ is_iri (Literal l d t) = false
 
 -- by subject, then predicate, then object: the project's own order
 abbrev pub statement_cmp : Statement → Statement → Ordering
-statement_cmp x y = ordering_then (term_cmp x.subject y.subject) (ordering_then (term_cmp x.predicate y.predicate) (term_cmp x.object y.object))
+statement_cmp x y =
+    ordering_then (term_cmp x.subject y.subject)
+    (ordering_then (term_cmp x.predicate y.predicate) (term_cmp x.object y.object))

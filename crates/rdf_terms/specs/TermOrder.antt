@@ -42,7 +42,9 @@ by_keys = then_cmp (on rank nat_cmp) (then_cmp (on first text_cmp) (then_cmp (on
 
 by_keys_total : IsTotalOrder by_keys
 by_keys_total =
-    then_total (on_total rank nat_cmp_total) (then_total (on_total first nat_list_cmp_total) (then_total (on_total second nat_list_cmp_total) (on_total third nat_list_cmp_total)))
+    then_total (on_total rank nat_cmp_total)
+    (then_total (on_total first nat_list_cmp_total)
+    (then_total (on_total second nat_list_cmp_total) (on_total third nat_list_cmp_total)))
 
 then-Equal : (o : Ordering) → ordering_then o Equal ≡ o
 then-Equal Less = refl
@@ -75,7 +77,9 @@ term_cmp_total = subst IsTotalOrder (fun_ext (λ x. fun_ext (λ y. by_keys_is x 
 
 pub statement_cmp_total : IsTotalOrder statement_cmp
 statement_cmp_total =
-    then_total (on_total (λ (t : Statement). t.subject) term_cmp_total) (then_total (on_total (λ (t : Statement). t.predicate) term_cmp_total) (on_total (λ (t : Statement). t.object) term_cmp_total))
+    then_total (on_total (λ (t : Statement). t.subject) term_cmp_total)
+    (then_total (on_total (λ (t : Statement). t.predicate) term_cmp_total)
+    (on_total (λ (t : Statement). t.object) term_cmp_total))
 
 then_equal : (a b : Ordering) → ordering_then a b ≡ Equal → (a ≡ Equal) × (b ≡ Equal)
 then_equal Less b e = cc

@@ -1,21 +1,37 @@
-ghost use Rattle.std.specs.Prelude.{◌≡◌, ◌<◌, ◌≤◌, ◌↔◌, ◌==◌, IsTrue, IsNone, OnOk, OnErr, IfOk, IfErr, IfSome, IfNone, List, length, slice_get, not, true, false, cond};
-ghost use Rattle.rdf_terms.specs.Graph.{Graph as Triples, triples, has, with, empty, of_list, without as difference, edited as edited_graph, IsPlace, ArePlacesOf};
+ghost use Rattle.std.specs.Prelude.{◌≡◌, ◌-◌, ◌^◌, ◌<◌, ◌≤◌, ◌↔◌, ◌&&◌, ◌||◌, ◌==◌, List, length, map, insert, vec_len};
+ghost use Rattle.std.specs.Prelude.{IsTrue, OnOk, OnErr, IfOk, IfErr, IfSome, IfNone, All, Contains, slice_get, not};
+ghost use Rattle.std.specs.Prelude.{true, false};
+ghost use Rattle.std.specs.Ordering.{ordering_then};
+ghost use Rattle.std.specs.Option.{option_cmp, option_copied};
+ghost use Rattle.rdf_terms.specs.Term.{term_cmp};
+ghost use Rattle.rdf_terms.specs.Statement.{Statement};
+ghost use Rattle.rdf_terms.specs.Graph.{Graph as Triples, triples, has, with, empty, of_list, graph_of, is_rising};
+ghost use Rattle.rdf_terms.specs.Graph.{without as difference, edited as edited_graph, IsPlace, ArePlacesOf};
+ghost use Rattle.rdf_terms.specs.Graph.{triples_of as triples_of_graph};
+ghost use Rattle.rdf_terms.specs.Graph.{object_at as object_at_place, ArePlacesOfObject};
+ghost use Rattle.rdf_terms.specs.ObjectOrder.{place_cmp, IsObjectOrder, moved_place};
 
 use crate::{OutOfMemory, Term, Triple, Triples};
 use std::alloc::Global;
+use std::cmp::Ordering;
 use std::marker::Model;
 
 /// A finite set of triples (RDF 1.1 Concepts 3), walked in the order of [`Triple::compare`]. This
 /// order is the project's own, and RDF gives none. Contracts see the set, so two graphs are equal
 /// exactly where they have the same triples.
+///
+/// Beside the triples it keeps their places in the order of their objects, so that triples are
+/// found by their object as fast as by their subject.
 #[derive(Drop)]
 pub struct Graph {
     items: Vec<Triple>,
+    by_object: Vec<usize>,
 }
 
 impl Model for Graph {
     ghost use Rattle.std.specs.Prelude.{IsTrue};
     ghost use Rattle.rdf_terms.specs.Graph.{Graph as Triples, code, graph_of, is_rising};
+    ghost use Rattle.rdf_terms.specs.ObjectOrder.{IsObjectOrder};
 
     ghost Value = { Triples };
 
@@ -23,7 +39,7 @@ impl Model for Graph {
 
     ghost view = { λ g. graph_of g.items.items };
 
-    ghost invariant = { λ g. IsTrue (is_rising g.items.items) };
+    ghost invariant = { λ g. IsTrue (is_rising g.items.items) × IsObjectOrder g.items.items g.by_object.items };
 }
 
 impl Graph {
@@ -33,21 +49,29 @@ impl Graph {
     {
         Graph {
             items: Vec::new(alloc),
+            by_object: Vec::new(alloc),
         }
+    }
+
+    /// The graph of triples that rise.
+    fn from_rising(alloc: Global, items: Vec<Triple>) -> Result<Graph, OutOfMemory>
+        requires { IsTrue (is_rising items.items) }
+        ensures { IfOk result (λ g. g ≡ graph_of items.items) }
+    {
+        let by_object = object_order(alloc, items.as_slice())?;
+        Ok(Graph { items, by_object })
     }
 
     /// The graph of the triples of a list, which may stand there in any order and repeatedly. The
     /// triples are moved and not copied.
     pub fn from_triples(alloc: Global, triples: Triples) -> Result<Graph, OutOfMemory>
-        ensures { IfOk result (λ g. g ≡ of_list triples) }
+        ensures value { IfOk result (λ g. g ≡ of_list triples) }
+        ensures exact { IfOk result (λ g. (t : Statement) → IsTrue (has g t) ↔ Contains triples t) }
     {
-        let mut sorted = triples.into_vec();
-        sorted.sort()?;
-        let mut made = Graph::new(alloc);
-        'inserting: for triple in sorted {
-            made.insert(triple)?;
-        }
-        Ok(made)
+        let mut items = triples.into_vec();
+        items.sort_unstable();
+        items.dedup();
+        Graph::from_rising(alloc, items)
     }
 
     /// The triples, in order. It takes no memory.
@@ -99,9 +123,10 @@ impl Graph {
         }
     }
 
-    /// Whether the graph has the triple.
+    /// Whether the graph has the triple, and so lists it.
     pub fn contains(&self, triple: &Triple) -> bool
-        ensures { result ≡ has self.now triple.now }
+        ensures value { result ≡ has self.now triple.now }
+        ensures listed { IsTrue result ↔ Contains (triples self.now) triple.now }
     {
         match self.place(triple) {
             Ok(_) => true,
@@ -120,6 +145,31 @@ impl Graph {
         (first, after)
     }
 
+    /// The triples with this subject and this predicate, in order. They stand side by side, so two
+    /// binary searches find them. It takes no memory.
+    pub fn triples_of(&self, subject: &Term, predicate: &str) -> &[Triple]
+        ensures value { result.now ≡ triples_of_graph self.now subject.now (Term.Iri predicate.now) }
+        ensures exact { (t : Statement) → Contains result.now t
+            ↔ (IsTrue (has self.now t) × (t.subject ≡ subject.now) × (t.predicate ≡ Term.Iri predicate.now)) }
+    {
+        let triples = self.as_slice();
+        let first = triples.partition_point(|t| compare_key(t, subject, predicate).is_lt());
+        let after = triples.partition_point(|t| compare_key(t, subject, predicate).is_le());
+        &triples[first..after]
+    }
+
+    /// The places of the triples with this object, in order, by two binary searches. It takes no
+    /// memory.
+    pub fn places_of_object(&self, object: &Term) -> &[usize]
+        ensures { ArePlacesOfObject (triples self.now) object.now result.now }
+    {
+        let triples = self.items.as_slice();
+        let places = self.by_object.as_slice();
+        let first = places.partition_point(|place| compare_object(triples, *place, object).is_lt());
+        let after = places.partition_point(|place| compare_object(triples, *place, object).is_le());
+        &places[first..after]
+    }
+
     /// Inserts the triple, and answers whether it was new. After `OutOfMemory` the graph is as
     /// before, and the triple is dropped.
     pub fn insert(&mut self, triple: Triple) -> Result<bool, OutOfMemory>
@@ -130,87 +180,171 @@ impl Graph {
         match self.place(&triple) {
             Ok(_) => Ok(false),
             Err(place) => {
-                self.items.insert(place, triple)?;
+                insert_at(&mut self.items, &mut self.by_object, place, triple)?;
                 Ok(true)
             }
         }
     }
 
-    /// Inserts a copy of the triple, unless the other graph has it.
-    fn insert_copy(
-        &mut self,
-        alloc: Global,
-        triple: &Triple,
-        unless: &Graph,
-    ) -> Result<(), OutOfMemory>
-        ensures { OnOk result (self.new ≡ cond (not (has unless.now triple.now)) (with self.old triple.now) self.old) }
-    {
-        if !unless.contains(triple) {
-            self.insert(triple.copy(alloc)?)?;
-        }
-        Ok(())
-    }
-
     /// The triples of this graph that the other has not. The graph is new, and both stay.
     pub fn without(&self, alloc: Global, other: &Graph) -> Result<Graph, OutOfMemory>
-        ensures { IfOk result (λ g. g ≡ difference self.now other.now) }
+        ensures value { IfOk result (λ g. g ≡ difference self.now other.now) }
+        ensures exact { IfOk result (λ g. (t : Statement) → has g t ≡ (has self.now t && not (has other.now t))) }
     {
-        let mut made = Graph::new(alloc);
+        let items = self.triples_without(alloc, other)?;
+        Graph::from_rising(alloc, items)
+    }
+
+    /// Copies of the triples that the other graph has not, in order.
+    fn triples_without(&self, alloc: Global, other: &Graph) -> Result<Vec<Triple>, OutOfMemory>
+        ensures { IfOk result (λ ts. ts.items ≡ triples (difference self.now other.now)) }
+    {
+        let mut kept = Vec::new(alloc);
         'keeping: for triple in self.as_slice() {
-            made.insert_copy(alloc, triple, other)?;
+            if !other.contains(triple) {
+                kept.push(triple.copy(alloc)?)?;
+            }
         }
-        Ok(made)
+        Ok(kept)
     }
 
     /// This graph without the triples of `delete`, and then with those of `add`: a triple of both
-    /// is there. The graph is new, and all three stay. It is one merge, so each insertion is at
-    /// the end.
+    /// is there. The graph is new, and all three stay.
     pub fn edited(&self, alloc: Global, add: &Graph, delete: &Graph) -> Result<Graph, OutOfMemory>
-        ensures { IfOk result (λ g. g ≡ edited_graph self.now add.now delete.now) }
+        ensures value { IfOk result (λ g. g ≡ edited_graph self.now add.now delete.now) }
+        ensures exact { IfOk result (λ g. (t : Statement)
+            → has g t ≡ ((has self.now t && not (has delete.now t)) || has add.now t)) }
     {
-        let mine = self.as_slice();
-        let theirs = add.as_slice();
-        let mut made = Graph::new(alloc);
-        let mut kept = 0;
-        let mut added = 0;
-        'merging: while let Some(side) = next_side(mine, kept, theirs, added) {
-            match side {
-                Side::First => {
-                    made.insert_copy(alloc, &mine[kept], delete)?;
-                    kept += 1;
-                }
-                Side::Second => {
-                    made.insert(theirs[added].copy(alloc)?)?;
-                    added += 1;
-                }
-            }
+        let mut items = self.triples_without(alloc, delete)?;
+        'adding: for triple in add.as_slice() {
+            items.push(triple.copy(alloc)?)?;
         }
-        Ok(made)
+        // Two parts that rise, which a stable sort merges in one pass.
+        items.sort()?;
+        items.dedup();
+        Graph::from_rising(alloc, items)
     }
 }
 
-/// Which of two lists that are walked side by side gives the next triple.
-#[derive(Clone, Copy)]
-enum Side {
-    First,
-    Second,
+impl PartialEq for Graph {
+    ghost use Rattle.std.specs.Prelude.{◌≡◌, ◌↔◌, IsTrue};
+    ghost use Rattle.std.specs.Cmp.{partial_equiv_from_equiv};
+    ghost use Rattle.std.proofs.lemmas.Cmp.{eq_by_cmp_equiv, lists_equiv, on_equiv};
+    ghost use Rattle.rdf_terms.specs.Statement.{Statement};
+    ghost use Rattle.rdf_terms.specs.Graph.{triples, has, same_triples};
+    ghost use Rattle.rdf_terms.specs.TermOrder.{statement_cmp_total};
+
+    ghost eq = { same_triples };
+
+    ghost laws = { partial_equiv_from_equiv (on_equiv triples (lists_equiv (eq_by_cmp_equiv statement_cmp_total))) };
+
+    /// Whether two graphs are equal, as they are where they have the same triples.
+    fn eq(&self, other: &Graph) -> bool
+        ensures value { result ≡ same_triples self.now other.now }
+        ensures equal { IsTrue result ↔ (self.now ≡ other.now) }
+        ensures exact { IsTrue result ↔ ((t : Statement) → has self.now t ≡ has other.now t) }
+    {
+        self.as_slice() == other.as_slice()
+    }
 }
 
-/// Which of two sorted lists has the lower next triple, at the places that two walks have come
-/// to. It is the first one where the two are equal, and `None` where both walks are at their end.
-fn next_side(first: &[Triple], i: usize, second: &[Triple], j: usize) -> Option<Side>
-    ensures first { result ≡ Some Side.First → i < length first.now }
-    ensures second { result ≡ Some Side.Second → j < length second.now }
-    ensures end { IfNone result ((length first.now ≤ i) × (length second.now ≤ j)) }
+impl Eq for Graph {
+    ghost use Rattle.std.proofs.lemmas.Cmp.{eq_by_cmp_equiv, lists_equiv, on_equiv};
+    ghost use Rattle.rdf_terms.specs.Graph.{triples};
+    ghost use Rattle.rdf_terms.specs.TermOrder.{statement_cmp_total};
+
+    ghost laws = { on_equiv triples (lists_equiv (eq_by_cmp_equiv statement_cmp_total)) };
+}
+
+/// The order of a triple's subject and predicate against a subject and the IRI of a predicate.
+fn compare_key(triple: &Triple, subject: &Term, predicate: &str) -> Ordering
+    ensures { result ≡ ordering_then (term_cmp triple.now.subject subject.now)
+        (term_cmp triple.now.predicate (Term.Iri predicate.now)) }
 {
-    match (first.get(i), second.get(j)) {
-        (Some(mine), Some(theirs)) => Some(if mine <= theirs {
-            Side::First
-        } else {
-            Side::Second
-        }),
-        (Some(_), None) => Some(Side::First),
-        (None, Some(_)) => Some(Side::Second),
-        (None, None) => None,
+    triple
+        .subject
+        .compare(subject)
+        .then_with(|| triple.predicate.compare_to_iri(predicate))
+}
+
+/// The object of the triple at a place, where there is one.
+fn object_at(triples: &[Triple], place: usize) -> Option<&Term>
+    ensures { option_copied result ≡ object_at_place triples.now place }
+{
+    triples.get(place).map(|triple| &triple.object)
+}
+
+/// The order of the object at a place against an object.
+fn compare_object(triples: &[Triple], place: usize, object: &Term) -> Ordering
+    ensures { result ≡ option_cmp term_cmp (object_at_place triples.now place) (Some object.now) }
+{
+    match object_at(triples, place) {
+        Some(own) => own.compare(object),
+        None => Ordering::Less,
+    }
+}
+
+/// The order of two places, by the objects there, and then by the places.
+fn compare_places(triples: &[Triple], i: usize, j: usize) -> Ordering
+    ensures { result ≡ place_cmp triples.now i j }
+{
+    match object_at(triples, j) {
+        Some(object) => compare_object(triples, i, object).then_with(|| i.cmp(&j)),
+        None => match object_at(triples, i) {
+            Some(_) => Ordering::Greater,
+            None => i.cmp(&j),
+        },
+    }
+}
+
+/// The places of triples in the order of their objects.
+fn object_order(alloc: Global, triples: &[Triple]) -> Result<Vec<usize>, OutOfMemory>
+    ensures { IfOk result (λ places. IsObjectOrder triples.now places.items) }
+{
+    let mut places = Vec::with_capacity(alloc, triples.len())?;
+    'listing: for place in 0..triples.len() {
+        places.push(place)?;
+    }
+    places.sort_unstable_by(|i, j| compare_places(triples, *i, *j));
+    Ok(places)
+}
+
+/// Inserts a triple into a list at a place, and the place into the order of their objects. After
+/// `OutOfMemory` both are as before, and the triple is dropped.
+fn insert_at(
+    items: &mut Vec<Triple>,
+    by_object: &mut Vec<usize>,
+    place: usize,
+    triple: Triple,
+) -> Result<(), OutOfMemory>
+    requires within { place ≤ vec_len items.old }
+    requires order { IsObjectOrder items.old.items by_object.old.items }
+    ensures inserted { OnOk result (items.new.items ≡ insert items.old.items place triple) }
+    ensures order { OnOk result (IsObjectOrder items.new.items by_object.new.items) }
+    ensures err { OnErr result ((items.new.items ≡ items.old.items) × (by_object.new.items ≡ by_object.old.items)) }
+{
+    items.reserve(1)?;
+    by_object.reserve(1)?;
+    if items.insert(place, triple).is_err() {
+        unreachable!();
+    }
+    move_places(by_object.as_mut_slice(), place);
+    let triples = items.as_slice();
+    let at = by_object.partition_point(|other| compare_places(triples, *other, place).is_lt());
+    if by_object.insert(at, place).is_err() {
+        unreachable!();
+    }
+    Ok(())
+}
+
+/// Moves each place from the given one on by one place.
+fn move_places(places: &mut [usize], from: usize)
+    requires { All (λ place. place < 2 ^ 64 - 1) places.old }
+    ensures { places.new ≡ map (moved_place from) places.old }
+{
+    'moving: for place in places.iter_mut() {
+        if *place >= from {
+            *place += 1;
+        }
     }
 }

@@ -8,6 +8,7 @@ mod nodes;
 mod term;
 mod text;
 mod triple;
+pub mod vocab;
 
 pub use graph::Graph;
 pub use lists::{Bytes, Items, Numbers, Places, Terms, Triples};

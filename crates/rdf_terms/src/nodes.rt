@@ -1,6 +1,9 @@
-ghost use Rattle.std.specs.Prelude.{◌≡◌, ◌<◌, ◌≤◌, ◌==◌, ◌++◌, OnOk, IfOk, IfErr, IfSome, IfNone, length, slice_get, false};
+ghost use Rattle.std.specs.Prelude.{◌≡◌, ◌<◌, ◌≤◌, ◌==◌, ◌++◌, ◌↔◌, ◌⊎◌, length, slice_get, Contains, false};
+ghost use Rattle.std.specs.Prelude.{IsTrue, OnOk, IfOk, IfErr, IfSome, IfNone};
+ghost use Rattle.rdf_terms.specs.declared.term.Term.{Term as T};
 ghost use Rattle.rdf_terms.specs.Graph.{triples};
-ghost use Rattle.rdf_terms.specs.Nodes.{Nodes as TermSet, terms, has_term, nodes_of_list, ends, nodes_of as nodes_of_graphs, IsTermPlace, empty, with};
+ghost use Rattle.rdf_terms.specs.Nodes.{Nodes as TermSet, terms, has_term, nodes_of_list, nodes_of_rising, is_rising};
+ghost use Rattle.rdf_terms.specs.Nodes.{ends, nodes_of as nodes_of_graphs, IsNodeOf, IsTermPlace, empty};
 
 use crate::{Graph, OutOfMemory, Term, Terms};
 use std::alloc::Global;
@@ -29,28 +32,19 @@ impl Nodes {
     /// The set of the terms of a list, which may stand there in any order and repeatedly. The
     /// terms are moved and not copied.
     pub fn from_terms(alloc: Global, terms: Terms) -> Result<Nodes, OutOfMemory>
-        ensures { IfOk result (λ n. n ≡ nodes_of_list terms) }
+        ensures value { IfOk result (λ n. n ≡ nodes_of_list terms) }
+        ensures exact { IfOk result (λ n. (t : T) → IsTrue (has_term n t) ↔ Contains terms t) }
     {
-        let mut sorted = terms.into_vec();
-        sorted.sort()?;
-        let mut made = Nodes::new(alloc);
-        'inserting: for term in sorted {
-            made.insert(term)?;
-        }
-        Ok(made)
-    }
-
-    fn new(alloc: Global) -> Nodes
-        ensures { result ≡ empty }
-    {
-        Nodes {
-            items: Vec::new(alloc),
-        }
+        let mut items = terms.into_vec();
+        items.sort_unstable();
+        items.dedup();
+        Ok(Nodes { items })
     }
 
     /// The terms, in order. It takes no memory.
     pub fn as_slice(&self) -> &[Term]
-        ensures { result.now ≡ terms self.now }
+        ensures value { result.now ≡ terms self.now }
+        ensures exact { (t : T) → IsTrue (has_term self.now t) ↔ Contains result.now t }
     {
         self.items.as_slice()
     }
@@ -96,16 +90,6 @@ impl Nodes {
             Err(_) => None,
         }
     }
-
-    /// Inserts the term, unless it is there.
-    fn insert(&mut self, term: Term) -> Result<(), OutOfMemory>
-        ensures { OnOk result (self.new ≡ with self.old term) }
-    {
-        if let Err(place) = self.place(&term) {
-            self.items.insert(place, term)?;
-        }
-        Ok(())
-    }
 }
 
 /// The set of all subjects and objects of two graphs, and of more terms.
@@ -115,7 +99,9 @@ pub fn nodes_of(
     second: &Graph,
     more: &[Term],
 ) -> Result<Nodes, OutOfMemory>
-    ensures { IfOk result (λ n. n ≡ nodes_of_graphs first.now second.now more.now) }
+    ensures value { IfOk result (λ n. n ≡ nodes_of_graphs first.now second.now more.now) }
+    ensures exact { IfOk result (λ n. (t : T) → IsTrue (has_term n t)
+        ↔ ((IsNodeOf first.now t ⊎ IsNodeOf second.now t) ⊎ Contains more.now t)) }
 {
     let mut terms = Terms::new(alloc);
     push_ends(alloc, &mut terms, first)?;

@@ -1,4 +1,4 @@
-ghost use Rattle.std.specs.Prelude.{◌≡◌, IfOk};
+ghost use Rattle.std.specs.Prelude.{◌≡◌, ◌↔◌, IfOk, IsTrue};
 ghost use Rattle.rdf_terms.specs.Term.{term_cmp};
 
 use crate::{OutOfMemory, Text};
@@ -49,7 +49,8 @@ impl Term {
     /// lexical form, then datatype, then tag, where no tag comes first. It is `Equal` for equal
     /// terms alone. It takes no memory.
     pub fn compare(&self, other: &Term) -> Ordering
-        ensures { result ≡ term_cmp self.now other.now }
+        ensures order { result ≡ term_cmp self.now other.now }
+        ensures equal { (result ≡ Ordering.Equal) ↔ (self.now ≡ other.now) }
     {
         match (self, other) {
             (Term::Iri(a), Term::Iri(b)) => a.cmp(b),
@@ -75,6 +76,26 @@ impl Term {
         }
     }
 
+    /// The order of the term against an IRI, in the order of terms. It takes no memory.
+    pub fn compare_to_iri(&self, iri: &str) -> Ordering
+        ensures { result ≡ term_cmp self.now (Term.Iri iri.now) }
+    {
+        match self {
+            Term::Iri(text) => text.as_str().cmp(iri),
+            Term::Blank { .. } | Term::Literal { .. } => Ordering::Greater,
+        }
+    }
+
+    /// Whether it is this very IRI.
+    pub fn is_named(&self, iri: &str) -> bool
+        ensures { IsTrue result ↔ (self.now ≡ Term.Iri iri.now) }
+    {
+        match self {
+            Term::Iri(text) => text.as_str() == iri,
+            Term::Blank { .. } | Term::Literal { .. } => false,
+        }
+    }
+
     /// Whether it is an IRI, as a predicate has to be.
     pub fn is_iri(&self) -> bool
         ensures { result ≡ is_iri self.now }
@@ -89,7 +110,7 @@ impl Term {
         !matches!(self, Term::Literal { .. })
     }
 
-    /// An equal term in memory of its own.
+    /// An equal term, which shares the bytes of its texts with this one. It takes no memory.
     pub fn copy(&self, alloc: Global) -> Result<Term, OutOfMemory>
         ensures { IfOk result (λ t. t ≡ self.now) }
     {

@@ -1,4 +1,4 @@
-ghost use Rattle.std.specs.Prelude.{◌≡◌, IfOk, nat_eq};
+ghost use Rattle.std.specs.Prelude.{◌≡◌, IfOk, nat_eq, string_bytes};
 ghost use Rattle.std.specs.Cmp.Lexicographic.{slice_cmp, pointwise};
 ghost use Rattle.std.specs.Ordering.{nat_cmp, as_partial_cmp};
 ghost use Rattle.std.specs.Cmp.{partial_order_from_own_ties};
@@ -9,20 +9,22 @@ use crate::OutOfMemory;
 use std::alloc::Global;
 use std::cmp::Ordering;
 use std::marker::Model;
+use std::rc::RcStr;
 
-/// A Unicode text, as RDF has in IRIs, labels and literals. Contracts see the list of its UTF-8
-/// bytes. Texts are ordered by these bytes.
+/// A Unicode text, as RDF has in IRIs, labels and literals. It shares its bytes with its copies.
+/// Contracts see the list of its UTF-8 bytes. Texts are ordered by these bytes.
 #[derive(Debug, Drop)]
 pub struct Text {
-    text: String,
+    text: RcStr,
 }
 
 impl Model for Text {
-    ghost use Rattle.std.specs.Prelude.{List, ℕ, string_bytes};
+    ghost use Rattle.std.specs.Prelude.{List, ℕ};
+    ghost use Rattle.std.specs.Rc.{rc_str_bytes};
 
     ghost Value = { List ℕ };
 
-    ghost view = { λ t. string_bytes t.text };
+    ghost view = { λ t. rc_str_bytes t.text };
 }
 
 impl Text {
@@ -30,8 +32,17 @@ impl Text {
     pub fn from_str(alloc: Global, text: &str) -> Result<Text, OutOfMemory>
         ensures { IfOk result (λ t. t ≡ text.now) }
     {
-        let text = String::from_str(alloc, text)?;
-        Ok(Text { text })
+        Text::from_string(String::from_str(alloc, text)?)
+    }
+
+    /// The text of a `String`, whose bytes are moved and not copied. It takes memory for the count
+    /// of its copies.
+    pub fn from_string(text: String) -> Result<Text, OutOfMemory>
+        ensures { IfOk result (λ t. t ≡ string_bytes text) }
+    {
+        Ok(Text {
+            text: RcStr::from_string(text)?,
+        })
     }
 
     /// The text. It takes no memory.
@@ -41,11 +52,14 @@ impl Text {
         self.text.as_str()
     }
 
-    /// An equal text in memory of its own.
-    pub fn copy(&self, alloc: Global) -> Result<Text, OutOfMemory>
+    /// An equal text that shares the bytes of this one. It takes no memory, and counts one more
+    /// copy.
+    pub fn copy(&self, _alloc: Global) -> Result<Text, OutOfMemory>
         ensures { IfOk result (λ t. t ≡ self.now) }
     {
-        Text::from_str(alloc, self.as_str())
+        Ok(Text {
+            text: self.text.clone()?,
+        })
     }
 }
 

@@ -27,7 +27,7 @@ impl Model for Triple {
 }
 
 impl Triple {
-    ghost use Rattle.std.specs.Prelude.{◌≡◌, IsTrue, IfOk};
+    ghost use Rattle.std.specs.Prelude.{◌≡◌, ◌↔◌, IsTrue, IfOk};
     ghost use Rattle.rdf_terms.specs.Statement.{Statement, is_node, is_iri, statement_cmp};
 
     /// The triple of three terms. It takes no memory.
@@ -66,7 +66,7 @@ impl Triple {
         &self.object
     }
 
-    /// An equal triple in memory of its own.
+    /// An equal triple, which shares the bytes of its texts with this one. It takes no memory.
     pub fn copy(&self, alloc: Global) -> Result<Triple, OutOfMemory>
         ensures { IfOk result (λ t. t ≡ self.now) }
     {
@@ -81,9 +81,10 @@ impl Triple {
     }
 
     /// The order of triples: by subject, then predicate, then object, each in the order of terms.
-    /// It is the project's own. It takes no memory.
+    /// It is the project's own, and `Equal` for equal triples alone. It takes no memory.
     pub fn compare(&self, other: &Triple) -> Ordering
-        ensures { result ≡ statement_cmp self.now other.now }
+        ensures order { result ≡ statement_cmp self.now other.now }
+        ensures equal { (result ≡ Ordering.Equal) ↔ (self.now ≡ other.now) }
     {
         self.subject
             .compare(&other.subject)

@@ -2,9 +2,6 @@
 //! RDF data conforms to its SHACL shapes.
 #![tactic(auto)]
 
-#[cfg(test)]
-mod tests;
-
 use explain_cli::{Status, run};
 use shelf_io::{FileShelf, StdSink};
 use std::process::ExitCode;

@@ -20,13 +20,20 @@ kept_at shelf name = find (λ k. pointwise nat_eq k.name name) shelf
 abbrev pub held_in : List Kept → List ℕ → Option (List ℕ)
 held_in shelf name = option_map (λ k. k.bytes) (kept_at shelf name)
 
--- the count of a name that isn't held stands at its end
+-- the counts of a name that isn't held stand at their end
 abbrev pub faults_of : Option Kept → ℕ
 faults_of None = 2 ^ 64 - 1
 faults_of (Some k) = k.calls.faults
 
 abbrev pub faults_in : List Kept → List ℕ → ℕ
 faults_in shelf name = faults_of (kept_at shelf name)
+
+abbrev pub pulls_of : Option Kept → ℕ
+pulls_of None = 2 ^ 64 - 1
+pulls_of (Some k) = k.calls.made
+
+abbrev pub pulls_in : List Kept → List ℕ → ℕ
+pulls_in shelf name = pulls_of (kept_at shelf name)
 
 -- the bytes under the name, in the place of those that stood there: its calls stay
 abbrev pub held_anew : List ℕ → List ℕ → Option Kept → Kept

@@ -6,4 +6,5 @@ pub mod Documents
 pub mod Held
 pub mod Kept
 pub mod Named
+pub mod Streams
 pub mod Sunk

@@ -33,8 +33,8 @@ const PIECE: usize = 1 << 14;
 
 /// All bytes that are held under the name.
 ///
-/// It asks first for one byte at place 2^30, and then reads from place 0 to the end. Each pull
-/// after the first takes a byte or is the last, so there are at most 2^30 + 2 of them.
+/// It asks first for one byte at place 2^30, and then reads from place 0 to the end. It returns
+/// after at most 2^30 + 2 pulls of that name, and none of another.
 ///
 /// - `ReadFault` comes only where the shelf's count of faults for that name rose in this call.
 /// - `TooLong` comes only where more than 2^30 bytes are held, and where they are, nothing but a
@@ -58,6 +58,8 @@ pub fn read_document<H: Shelf>(
     ensures later { (any : List ℕ) → H.faults shelf.old any ≤ H.faults shelf.new any }
     ensures others { (other : List ℕ) → other ≢ name.now → H.faults shelf.new other ≡ H.faults shelf.old other }
     ensures kept { H.held shelf.new ≡ H.held shelf.old }
+    ensures few { H.pulls shelf.new name.now ≤ H.pulls shelf.old name.now + (2 ^ 30 + 2) }
+    ensures unasked { (other : List ℕ) → other ≢ name.now → H.pulls shelf.new other ≡ H.pulls shelf.old other }
 {
     let mut probe = [0u8];
     match shelf.pull(name, LIMIT, &mut probe) {

@@ -1,8 +1,6 @@
-ghost use Rattle.std.specs.Prelude.{◌≡◌, ◌≢◌, ℕ, IfOk, ◌<◌, ◌≤◌, ◌^◌, List, length, drop, map, nat_eq, position, string_bytes};
+ghost use Rattle.std.specs.Prelude.{◌≡◌, ◌≢◌, ℕ, IfOk, ◌<◌, ◌≤◌, ◌^◌, List, length, drop, map, nat_eq, position, string_bytes, is_err};
 ghost use Rattle.std.specs.Cmp.Lexicographic.{pointwise};
-ghost use Rattle.shelf_io.specs.Causes.{HasCause, raised, count_after};
-ghost use Rattle.shelf_io.specs.Counted.{Counted, unfailed, count_at};
-ghost use Rattle.shelf_io.specs.Named.{ChangesOnly};
+ghost use Rattle.shelf_io.specs.Counted.{unasked, after_pull, faults_at, pulls_at, CountsPull};
 
 use crate::{Failed, Shelf};
 use rdf_terms::OutOfMemory;
@@ -12,10 +10,11 @@ use std::marker::Model;
 use std::rt::Files;
 use std::{fs, io};
 
-/// A word of the command line, and how many pulls of that name have failed.
+/// A word of the command line, how many pulls of that name were made, and how many have failed.
 #[derive(Drop)]
 struct WordCount<'a> {
     word: &'a str,
+    pulls: u64,
     faults: u64,
 }
 
@@ -24,21 +23,24 @@ impl<'a> Model for WordCount<'a> {
 
     ghost Value = { Counted };
 
-    ghost view = { λ c. record { word = c.word.now; faults = c.faults } };
+    ghost view = { λ c. record { word = c.word.now; pulls = c.pulls; faults = c.faults } };
 }
 
 impl WordCount<'_> {
-    /// Counts one more failed pull.
-    fn count_fault(&mut self)
-        ensures after { self.new ≡ record self.old { faults = raised self.old.faults } }
+    /// Counts one more pull, which failed or not.
+    fn count(&mut self, failed: bool)
+        ensures after { self.new ≡ after_pull failed self.old }
         ensures later { self.old.faults ≤ self.new.faults }
     {
-        self.faults = self.faults.saturating_add(1);
+        self.pulls = self.pulls.saturating_add(1);
+        if failed {
+            self.faults = self.faults.saturating_add(1);
+        }
     }
 }
 
-/// The files of the system, seen as the counts of faults of the words of the command line. It
-/// tells nothing of what the files hold.
+/// The files of the system, seen as the counts of pulls and faults of the words of the command line.
+/// It tells nothing of what the files hold.
 #[derive(Drop)]
 pub struct FileShelf<'a, R> {
     rt: &'a R,
@@ -55,34 +57,34 @@ impl<'a, R> Model for FileShelf<'a, R> {
 }
 
 impl<'a, R: Files> FileShelf<'a, R> {
-    /// A shelf whose names are paths. It keeps a count of faults for each of the words, which is 0
-    /// at first. The count of every other name always stands at its end, 2^64 - 1.
+    /// A shelf whose names are paths. It counts the pulls and the faults of each of the words, from 0
+    /// on. The counts of every other name always stand at their end, 2^64 - 1.
     pub fn new(
         rt: &'a R,
         alloc: Global,
         words: &'a [String],
     ) -> Result<FileShelf<'a, R>, OutOfMemory>
-        ensures { IfOk result (λ s. s ≡ map (λ word. unfailed (string_bytes word)) words.now) }
+        ensures { IfOk result (λ s. s ≡ map (λ word. unasked (string_bytes word)) words.now) }
     {
         let counts = words
             .iter()
             .map(|word| WordCount {
                 word: word.as_str(),
+                pulls: 0,
                 faults: 0,
             })
             .collect(alloc)?;
         Ok(FileShelf { rt, counts })
     }
 
-    /// Counts a failed pull of that name, if it is a word.
-    fn count_fault(&mut self, name: &str)
-        ensures after { ChangesOnly (count_at self.old) (count_at self.new) name.now
-            (raised (count_at self.old name.now)) }
-        ensures later { count_at self.old name.now ≤ count_at self.new name.now }
+    /// Counts a pull of that name, if it is a word.
+    fn count(&mut self, name: &str, failed: bool)
+        ensures after { CountsPull failed self.old self.new name.now }
+        ensures later { faults_at self.old name.now ≤ faults_at self.new name.now }
     {
         if let Some(i) = place_of(&self.counts, name) {
             let count = &mut self.counts[i];
-            count.count_fault();
+            count.count(failed);
         }
     }
 }
@@ -120,26 +122,34 @@ fn read_front<R: Files>(rt: &R, name: &str, at: u64, buf: &mut [u8]) -> io::Resu
 
 impl<'a, R: Files> Shelf for FileShelf<'a, R> {
     ghost use Rattle.std.specs.Prelude.{None};
+    ghost use Rattle.shelf_io.specs.Causes.{HasCause, raised};
+    ghost use Rattle.shelf_io.specs.Named.{ChangesOnly};
 
     ghost held = { λ _. None };
 
-    ghost faults = { count_at };
+    ghost faults = { faults_at };
+
+    ghost pulls = { pulls_at };
 
     /// Opens the file of that name, goes to the place and reads once. Each error of the system
     /// counts as a failure.
     fn pull(&mut self, name: &str, at: u64, buf: &mut [u8]) -> Result<usize, Failed>
-        ensures count { ChangesOnly (count_at self.old) (count_at self.new) name.now
-            (count_after (count_at self.old name.now) result) }
+        ensures count { CountsPull (is_err result) self.old self.new name.now }
         ensures bound { IfOk result (λ n. n ≤ length buf.old) }
         ensures rest { IfOk result (λ n. drop n buf.new ≡ drop n buf.old) }
-        ensures cause { HasCause (count_at self.old name.now) (count_at self.new name.now) result }
-        ensures later { (any : List ℕ) → count_at self.old any ≤ count_at self.new any }
-        ensures others { (other : List ℕ) → other ≢ name.now → count_at self.new other ≡ count_at self.old other }
+        ensures cause { HasCause (faults_at self.old name.now) (faults_at self.new name.now) result }
+        ensures later { (any : List ℕ) → faults_at self.old any ≤ faults_at self.new any }
+        ensures others { (other : List ℕ) → other ≢ name.now → faults_at self.new other ≡ faults_at self.old other }
+        ensures counted { ChangesOnly (pulls_at self.old) (pulls_at self.new) name.now
+            (raised (pulls_at self.old name.now)) }
     {
         match read_front(self.rt, name, at, buf) {
-            Ok(count) => Ok(count),
+            Ok(count) => {
+                self.count(name, false);
+                Ok(count)
+            }
             Err(_) => {
-                self.count_fault(name);
+                self.count(name, true);
                 Err(Failed)
             }
         }

@@ -78,8 +78,8 @@ impl Entry {
     }
 }
 
-/// A shelf in memory, which tells what it holds. It keeps a count of faults for each held name;
-/// that of every other name always stands at its end, 2^64 - 1.
+/// A shelf in memory, which tells what it holds. It counts the pulls and the faults of each held
+/// name; the counts of every other name always stand at their end, 2^64 - 1.
 #[derive(Drop)]
 pub struct MemoryShelf {
     alloc: Global,
@@ -187,13 +187,16 @@ impl MemoryShelf {
 
 impl Shelf for MemoryShelf {
     ghost use Rattle.std.specs.Prelude.{Some};
-    ghost use Rattle.shelf_io.specs.Causes.{HasCause};
+    ghost use Rattle.shelf_io.specs.Causes.{HasCause, raised};
     ghost use Rattle.shelf_io.specs.Held.{Pulls};
-    ghost use Rattle.shelf_io.specs.Kept.{kept_at, held_in, faults_in, pull_answer, after_pull, ChangesKept};
+    ghost use Rattle.shelf_io.specs.Kept.{kept_at, held_in, faults_in, pulls_in, pull_answer, after_pull, ChangesKept};
+    ghost use Rattle.shelf_io.specs.Named.{ChangesOnly};
 
     ghost held = { λ s. Some (held_in s) };
 
     ghost faults = { faults_in };
+
+    ghost pulls = { pulls_in };
 
     /// Fails exactly where the name isn't held or this pull is to fail, and else hands out as many
     /// bytes as fit. Where it fails, the buffer stays.
@@ -208,6 +211,8 @@ impl Shelf for MemoryShelf {
         ensures cause { HasCause (faults_in self.old name.now) (faults_in self.new name.now) result }
         ensures later { (any : List ℕ) → faults_in self.old any ≤ faults_in self.new any }
         ensures others { (other : List ℕ) → other ≢ name.now → faults_in self.new other ≡ faults_in self.old other }
+        ensures counted { ChangesOnly (pulls_in self.old) (pulls_in self.new) name.now
+            (raised (pulls_in self.old name.now)) }
     {
         self.pull_entry(name, at, buf)
     }

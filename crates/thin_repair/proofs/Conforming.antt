@@ -10,23 +10,37 @@ use Rattle.rdf_terms.specs.declared.term.Term.TheVariants.{Iri}
 use Rattle.rdf_terms.specs.Term.{term_cmp}
 use Rattle.rdf_terms.specs.Statement.{Statement}
 use Rattle.rdf_terms.specs.Graph.{Graph, triples}
+use Rattle.rdf_terms.proofs.Counting.{IsCount-unique, IsCount-same}
 use Rattle.rdf_terms.proofs.GraphLaws.{has_listed, listed_of_has}
 use Rattle.thin_repair.specs.declared.requirement.Requirement.{Requirement}
-use Rattle.thin_repair.specs.Vocabulary.{target_node, property, path, min_count, max_count, count_literal}
-use Rattle.thin_repair.specs.Conformance.{InGraph, IsCount, Value, AtLeast, AtMost, ConformsToProperty, Conforms}
+use Rattle.rdf_terms.specs.Vocab.Sh.{target_node, property, path, min_count, max_count}
+use Rattle.thin_repair.specs.Conformance.{count_literal}
+use Rattle.rdf_terms.specs.Members.{InGraph, IsCount}
+use Rattle.thin_repair.specs.Conformance.{Value, AtLeast, AtMost, ConformsToProperty, Conforms}
 use Rattle.thin_repair.specs.ThinShapes.{IsThinShapes, IsThinProperty, IsThinCount}
-use Rattle.thin_repair.specs.Requirements.{values, first_object, is_at_least, is_at_most, is_met, are_met, IsBound, Asks, pairs_of, pairs_at, pairs, AreRequirements}
-use Rattle.thin_repair.proofs.Decimals.{small_decimal}
-use Rattle.thin_repair.proofs.Terms.{same_term, term_tied}
-use Rattle.thin_repair.proofs.Bools.{both_left, both_right, both_true}
-use Rattle.thin_repair.proofs.Members.{take_whole, in_map, map_in, in_flat_map, flat_map_in, in_none, in_first, in_rest, in_cases}
-use Rattle.thin_repair.proofs.Counts.{in_values, values_in, counted, IsCount-unique, IsCount-same, first_in, none_in}
+use Rattle.rdf_terms.specs.Graph.{triples_of}
+use Rattle.thin_repair.specs.Requirements.{first_object, is_at_least, is_at_most, is_met, are_met, IsBound, Asks, pairs_of, pairs_at, pairs, AreRequirements}
+use Rattle.numerals.proofs.SmallDecimals.{small_decimal}
+use Rattle.std.proofs.lemmas.List.{take_all}
+use Rattle.rdf_terms.proofs.Bools.{both_left, both_right, both_true}
+use Rattle.rdf_terms.proofs.Keys.{in_triples_of, triples_of_in, none_in}
+use Rattle.rdf_terms.proofs.Members.{in_map, map_in, in_flat_map, flat_map_in, in_none, in_first, in_rest, in_cases}
+use Rattle.rdf_terms.proofs.Orders.{same_term, term_tied}
+use Rattle.rdf_terms.proofs.Values.{counted}
+
+-- the first value
+pub first_in : (g : Graph) (x q y : Term) → first_object (triples_of g x q) ≡ Some y → InGraph g x q y
+first_in g x q y e = by (triples_of g x q) (triples_of_in g x q) e
+  where
+    by : (ts : List Statement) → ((t : Statement) → Contains ts t → InGraph g x q t.object) → first_object ts ≡ Some y → InGraph g x q y
+    by [] each e = cc
+    by (t ∷ ts) each e = let same : t.object ≡ y = cc in subst (InGraph g x q) same (each t (in_first t ts))
 
 pub first_is : (ts : List Statement) (t : Statement) → 1 ≤ length ts → t ≡ get_or ts 0 t → first_object ts ≡ Some t.object
 first_is [] t some e = absurd (omega arith)
 first_is (u ∷ us) t some e = ap (λ (v : Statement). Some v.object) (sym e)
 
-pub bound_from : (shapes : Graph) (p q o : Term) (bound : Option ℕ) → first_object (values shapes p q) ≡ Some o → IsThinCount o → MatchOption bound (¬ (IsThinCount o)) (λ n. (o ≡ count_literal n) × (n ≤ 4294967295)) → IsBound shapes p q bound
+pub bound_from : (shapes : Graph) (p q o : Term) (bound : Option ℕ) → first_object (triples_of shapes p q) ≡ Some o → IsThinCount o → MatchOption bound (¬ (IsThinCount o)) (λ n. (o ≡ count_literal n) × (n ≤ 4294967295)) → IsBound shapes p q bound
 bound_from shapes p q o None first thin none = absurd (none thin)
 bound_from shapes p q o (Some n) first thin is = first ∙ ap Some is.0
 
@@ -43,7 +57,7 @@ same_count shapes p q n m thin e =
 
 module _ (shapes g : Graph) (thin : IsThinShapes shapes) (x p : Term) (shape : IsThinProperty shapes p) (r : Requirement) (asks : Asks shapes (x, p) r) where
   abbrev found : ℕ
-  found = length (values g r.focus (Iri r.path))
+  found = length (triples_of g r.focus (Iri r.path))
 
   only_path : (q : Term) → InGraph shapes p path q → q ≡ Iri r.path
   only_path q h = shape.one_path q h ∙ sym (shape.one_path (Iri r.path) (first_in shapes p path (Iri r.path) asks.path_of))
@@ -108,14 +122,14 @@ asks_more shapes f us i u before rs r lt is asks ask =
     subst (λ ps. AllZip (Asks shapes) ps (rs ++ r ∷ [])) (append_assoc before (map f (take i us)) (f u ∷ []) ∙ sym (ap (λ ps. before ++ ps) more)) (all_zip_push (Asks shapes) (before ++ map f (take i us)) rs (f u) r asks ask)
 
 pub asks_all : (shapes : Graph) (f : Statement → Term × Term) (us vs : List Statement) (i : ℕ) (before : List (Term × Term)) (rs : List Requirement) → us ≡ vs → length us ≤ i → AllZip (Asks shapes) (before ++ map f (take i us)) rs → AllZip (Asks shapes) (before ++ map f vs) rs
-asks_all shapes f us vs i before rs is le asks = subst (λ ts. AllZip (Asks shapes) (before ++ map f ts) rs) (take_whole us i le ∙ is) asks
+asks_all shapes f us vs i before rs is le asks = subst (λ ts. AllZip (Asks shapes) (before ++ map f ts) rs) (take_all i us le ∙ is) asks
 
 pub asks_whole : (shapes : Graph) (ts : List Statement) (i : ℕ) (rs : List Requirement) → ts ≡ triples shapes → length ts ≤ i → AllZip (Asks shapes) (flat_map (pairs_at shapes) (take i ts)) rs → AreRequirements shapes rs
-asks_whole shapes ts i rs is le asks = subst (λ us. AllZip (Asks shapes) (flat_map (pairs_at shapes) us) rs) (take_whole ts i le ∙ is) asks
+asks_whole shapes ts i rs is le asks = subst (λ us. AllZip (Asks shapes) (flat_map (pairs_at shapes) us) rs) (take_all i ts le ∙ is) asks
 
 -- the objects of sh:property are property shapes
-pub listed_property : (shapes : Graph) (s : Term) → IsThinShapes shapes → (ts : List Statement) (i : ℕ) (t : Statement) → ts ≡ values shapes s property → i < length ts → t ≡ get_or ts i t → IsThinProperty shapes t.object
-listed_property shapes s thin ts i t is lt at = thin.properties s t.object (values_in shapes s property t (subst (λ us. Contains us t) is (i, lt, sym at)))
+pub listed_property : (shapes : Graph) (s : Term) → IsThinShapes shapes → (ts : List Statement) (i : ℕ) (t : Statement) → ts ≡ triples_of shapes s property → i < length ts → t ≡ get_or ts i t → IsThinProperty shapes t.object
+listed_property shapes s thin ts i t is lt at = thin.properties s t.object (triples_of_in shapes s property t (subst (λ us. Contains us t) is (i, lt, sym at)))
 
 pub pairs_more : (shapes : Graph) (ts : List Statement) (i : ℕ) (t : Statement) → i < length ts → t ≡ get_or ts i t → flat_map (pairs_at shapes) (take (i + 1) ts) ≡ flat_map (pairs_at shapes) (take i ts) ++ pairs_at shapes t
 pairs_more shapes ts i t lt is =
@@ -137,7 +151,7 @@ in_pairs : (shapes : Graph) (s x p : Term) → InGraph shapes s target_node x �
 in_pairs shapes s x p focus listed =
     let t : Statement = record { subject = s; predicate = target_node; object = x } in
     in_flat_map (pairs_at shapes) (triples shapes) t (x, p) (listed_of_has shapes t focus)
-    (subst (λ ps. Contains ps (x, p)) (sym (pairs_at_target shapes t (term_tied target_node))) (in_map (λ (u : Statement). (x, u.object)) (values shapes s property) (record { subject = s; predicate = property; object = p }) (in_values shapes s property p listed)))
+    (subst (λ ps. Contains ps (x, p)) (sym (pairs_at_target shapes t (term_tied target_node))) (in_map (λ (u : Statement). (x, u.object)) (triples_of shapes s property) (record { subject = s; predicate = property; object = p }) (in_triples_of shapes s property p listed)))
 
 pairs_in : (shapes : Graph) (pair : Term × Term) → Contains (pairs shapes) pair → IsPair shapes pair.0 pair.1
 pairs_in shapes pair h =
@@ -147,12 +161,12 @@ pairs_in shapes pair h =
     by : (t : Statement) → Contains (triples shapes) t → Contains (pairs_at shapes t) pair → (b : Bool) → is_eq (term_cmp t.predicate target_node) ≡ b → IsPair shapes pair.0 pair.1
     by t here c false e = absurd (in_none pair (subst (λ ps. Contains ps pair) (pairs_at_other shapes t e) c))
     by t here c true e =
-        let m = map_in (λ (u : Statement). (t.object, u.object)) (values shapes t.subject property) pair (subst (λ ps. Contains ps pair) (pairs_at_target shapes t e) c) in
+        let m = map_in (λ (u : Statement). (t.object, u.object)) (triples_of shapes t.subject property) pair (subst (λ ps. Contains ps pair) (pairs_at_target shapes t e) c) in
         let target = same_term t.predicate target_node e in
         record {
           shape = t.subject;
           focus = subst (InGraph shapes t.subject target_node) (ap (λ (q : Term × Term). q.0) m.2) (subst (λ q. InGraph shapes t.subject q t.object) target (has_listed shapes t here));
-          listed = subst (InGraph shapes t.subject property) (ap (λ (q : Term × Term). q.1) m.2) (values_in shapes t.subject property m.0 m.1);
+          listed = subst (InGraph shapes t.subject property) (ap (λ (q : Term × Term). q.1) m.2) (triples_of_in shapes t.subject property m.0 m.1);
         }
 
 module _ (shapes g : Graph) (thin : IsThinShapes shapes) where

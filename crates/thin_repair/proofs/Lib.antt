@@ -1,11 +1,5 @@
-pub mod Bools
 pub mod Conforming
-pub mod Counts
-pub mod Decimals
 pub mod Edits
 pub mod Explains
-pub mod Members
-pub mod Ranges
 pub mod Steps
-pub mod Terms
 pub mod ThinTests

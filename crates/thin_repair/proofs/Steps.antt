@@ -11,45 +11,45 @@ use Rattle.rdf_terms.specs.Statement.{Statement, statement_cmp}
 use Rattle.rdf_terms.specs.Graph.{Graph, has, with, is_rising}
 use Rattle.rdf_terms.proofs.GraphLaws.{has-with, has_with_same, same_graph}
 use Rattle.thin_repair.specs.declared.requirement.Requirement.{Requirement}
-use Rattle.thin_repair.specs.Repair.{Within}
+use Rattle.repair_problem.specs.Repair.{Within}
 use Rattle.thin_repair.specs.Changes.{works, is_among, Extends, IsLeast, NoneWorks, Finds}
-use Rattle.thin_repair.proofs.Bools.{both_left, both_right, or_left, or_right, or_none, or_some}
-use Rattle.thin_repair.proofs.Members.{take_whole}
-use Rattle.thin_repair.proofs.Terms.{same_statement, statement_tied}
+use Rattle.std.proofs.lemmas.List.{take_all}
+use Rattle.rdf_terms.proofs.Bools.{both_left, both_right, neither_left, neither_right, neither_true, either_right}
+use Rattle.rdf_terms.proofs.Orders.{same_statement, statement_tied}
 
 -- none of the candidates is in the base
 abbrev pub AreFresh : List Statement → Graph → Type 0
 AreFresh ts base = (t : Statement) → IsTrue (is_among ts t) → has base t ≡ false
 
 leaves : (t : Statement) (rest : List Statement) (base c : Graph) → Extends rest base c → Extends (t ∷ rest) base c
-leaves t rest base c extends s none = extends s (or_right (eq_by_cmp statement_cmp s t) _ none)
+leaves t rest base c extends s none = extends s (neither_right (eq_by_cmp statement_cmp s t) _ none)
 
 takes : (t : Statement) (rest : List Statement) (base c : Graph) → Extends rest (with base t) c → Extends (t ∷ rest) base c
 takes t rest base c extends s none =
-    extends s (or_right (eq_by_cmp statement_cmp s t) _ none) ∙ has-with base t s ∙ ap (λ b. b || has base s) (or_left (eq_by_cmp statement_cmp s t) _ none)
+    extends s (neither_right (eq_by_cmp statement_cmp s t) _ none) ∙ has-with base t s ∙ ap (λ b. b || has base s) (neither_left (eq_by_cmp statement_cmp s t) _ none)
 
 left_out : (t : Statement) (rest : List Statement) (base c : Graph) → Extends (t ∷ rest) base c → has c t ≡ false → has base t ≡ false → Extends rest base c
 left_out t rest base c extends lacks fresh s none = by (eq_by_cmp statement_cmp s t) refl
   where
     by : (b : Bool) → eq_by_cmp statement_cmp s t ≡ b → has c s ≡ has base s
     by true e = let same = same_statement s t e in ap (has c) same ∙ lacks ∙ sym fresh ∙ sym (ap (has base) same)
-    by false e = extends s (or_none (eq_by_cmp statement_cmp s t) _ e none)
+    by false e = extends s (neither_true (eq_by_cmp statement_cmp s t) _ e none)
 
 taken : (t : Statement) (rest : List Statement) (base c : Graph) → Extends (t ∷ rest) base c → has c t ≡ true → Extends rest (with base t) c
 taken t rest base c extends holds s none = by (eq_by_cmp statement_cmp s t) refl
   where
     by : (b : Bool) → eq_by_cmp statement_cmp s t ≡ b → has c s ≡ has (with base t) s
     by true e = let same = same_statement s t e in ap (has c) same ∙ holds ∙ sym (has_with_same base t) ∙ sym (ap (has (with base t)) same)
-    by false e = extends s (or_none (eq_by_cmp statement_cmp s t) _ e none) ∙ sym (has-with base t s ∙ ap (λ b. b || has base s) e)
+    by false e = extends s (neither_true (eq_by_cmp statement_cmp s t) _ e none) ∙ sym (has-with base t s ∙ ap (λ b. b || has base s) e)
 
 pub first_fresh : (t : Statement) (rest : List Statement) (base : Graph) → AreFresh (t ∷ rest) base → has base t ≡ false
 first_fresh t rest base fresh = fresh t (ap (λ b. b || is_among rest t) (statement_tied t))
 
 pub rest_fresh : (t : Statement) (rest : List Statement) (base : Graph) → AreFresh (t ∷ rest) base → AreFresh rest base
-rest_fresh t rest base fresh s h = fresh s (or_some (eq_by_cmp statement_cmp s t) _ h)
+rest_fresh t rest base fresh s h = fresh s (either_right (eq_by_cmp statement_cmp s t) _ h)
 
 pub rest_fresh_with : (t : Statement) (rest : List Statement) (base : Graph) → is_among rest t ≡ false → AreFresh (t ∷ rest) base → AreFresh rest (with base t)
-rest_fresh_with t rest base once fresh s h = has-with base t s ∙ or_none (eq_by_cmp statement_cmp s t) _ (by _ refl) (rest_fresh t rest base fresh s h)
+rest_fresh_with t rest base once fresh s h = has-with base t s ∙ neither_true (eq_by_cmp statement_cmp s t) _ (by _ refl) (rest_fresh t rest base fresh s h)
   where
     by : (b : Bool) → eq_by_cmp statement_cmp s t ≡ b → eq_by_cmp statement_cmp s t ≡ false
     by true e = absurd (false≢true (sym once ∙ ap (is_among rest) (sym (same_statement s t e)) ∙ h))
@@ -95,7 +95,7 @@ module _ (rs : List Requirement) (g h : Graph) where
 -- a list by its first item and the rest
 pub split_first : {X : Type 0} (xs : List X) (x : X) → 1 ≤ length xs → x ≡ get_or xs 0 x → xs ≡ x ∷ take (length xs - 1) (drop 1 xs)
 split_first [] x some e = absurd (omega arith)
-split_first (y ∷ ys) x some e = λ i. sym e i ∷ sym (take_whole ys (suc (length ys) - 1) (omega arith)) i
+split_first (y ∷ ys) x some e = λ i. sym e i ∷ sym (take_all (suc (length ys) - 1) ys (omega arith)) i
 
 -- an item of a list that rises stands in it once
 pub once : (t : Statement) (ts : List Statement) → IsTrue (is_rising (t ∷ ts)) → is_among ts t ≡ false
@@ -108,7 +108,7 @@ once t ts h = above ts (both_left _ _ h)
 
     above : (ts : List Statement) → below_all statement_cmp t (marked ts) ≡ true → is_among ts t ≡ false
     above [] h = refl
-    above (u ∷ us) h = or_none _ _ (apart (statement_cmp t u) (both_left _ _ h)) (above us (both_right (is_lt (statement_cmp t u)) _ h))
+    above (u ∷ us) h = neither_true _ _ (apart (statement_cmp t u) (both_left _ _ h)) (above us (both_right (is_lt (statement_cmp t u)) _ h))
 
 pub rest_rises : (t : Statement) (ts : List Statement) → IsTrue (is_rising (t ∷ ts)) → IsTrue (is_rising ts)
 rest_rises t ts h = both_right _ _ h

@@ -1,5 +1,5 @@
 -- What the tests for thin shapes tell.
-use Rattle.std.proofs.Common.{◌≡◌, ◌≢◌, ◌↔◌, ℕ, zero, suc, ◌+◌, ◌≤◌, Bool, true, false, ◌&&◌, IsTrue, List, [], ◌∷◌, length, slice_index_or, get_or, take, Option, Some, None, MatchOption, is_some, ◌<◌, leb, leb-true, eqb, Contains, ◌⊎◌, inl, inr, refl, sym, ap, ◌∙◌, subst, arith}
+use Rattle.std.proofs.Common.{◌≡◌, ◌≢◌, ◌↔◌, ℕ, ◌+◌, ◌≤◌, Bool, true, false, ◌&&◌, IsTrue, List, [], ◌∷◌, length, get_or, take, Option, Some, None, MatchOption, is_some, ◌<◌, leb, leb-true, eqb, Contains, ◌⊎◌, inl, inr, refl, sym, ap, ◌∙◌, subst, arith}
 use Rattle.std.proofs.lemmas.Bool.{false≢true, le-leb, eqb-true, eq-eqb}
 use Rattle.std.specs.List.{All}
 use Rattle.std.proofs.lemmas.List.Elements.{All-contains, All-more}
@@ -9,79 +9,42 @@ use Rattle.rdf_terms.specs.declared.term.Term.{Term}
 use Rattle.rdf_terms.specs.Term.{term_cmp}
 use Rattle.rdf_terms.specs.Statement.{Statement, is_iri}
 use Rattle.rdf_terms.specs.Graph.{Graph, triples, has}
-use Rattle.thin_repair.specs.Vocabulary.{target_node, property, path, min_count, max_count, count_literal}
-use Rattle.thin_repair.specs.Conformance.{InGraph}
+use Rattle.rdf_terms.specs.Vocab.Sh.{target_node, property, path, min_count, max_count}
+use Rattle.thin_repair.specs.Conformance.{count_literal}
+use Rattle.rdf_terms.specs.Members.{InGraph}
+use Rattle.rdf_terms.proofs.Values.{same_values, few_triples, no_triples, no_values}
 use Rattle.thin_repair.specs.ThinShapes.{IsThinProperty, IsThinCount, IsThinShapes}
 use Rattle.thin_repair.specs.ThinChecks.{is_one_path, is_thin_property, FitsPredicate, Fits}
-use Rattle.thin_repair.specs.Requirements.{values}
-use Rattle.thin_repair.proofs.Bools.{both_left, both_right, both_true}
-use Rattle.thin_repair.proofs.Terms.{term_tied}
-use Rattle.thin_repair.proofs.Members.{take_whole, in_first, in_rest, in_none}
-use Rattle.thin_repair.proofs.Counts.{in_values, values_in, none_in, objects_differ}
+use Rattle.rdf_terms.specs.Graph.{triples_of}
+use Rattle.std.proofs.lemmas.List.{take_all}
+use Rattle.rdf_terms.proofs.Bools.{both_left, both_right, both_true}
+use Rattle.rdf_terms.proofs.Keys.{triples_of_in, none_in}
+use Rattle.rdf_terms.proofs.Members.{in_first}
+use Rattle.rdf_terms.proofs.Orders.{term_tied}
 
 module _ (g : Graph) (x q : Term) where
-  -- at most one object
-  few_same : length (values g x q) ≤ 1 → (m n : Term) → InGraph g x q m → InGraph g x q n → m ≡ n
-  few_same few m n h k = by (values g x q) few (in_values g x q m h) (in_values g x q n k)
-    where
-      object_of : (t : Statement) → (y : Term) → Contains (t ∷ []) (record { subject = x; predicate = q; object = y }) → t.object ≡ y
-      object_of t y c = let l = c.1 in let same : slice_index_or (t ∷ []) c.0 (record { subject = x; predicate = q; object = y }) ≡ record { subject = x; predicate = q; object = y } = c.2 in alone c.0 (omega arith) same
-        where
-          alone : (k : ℕ) → k ≡ 0 → slice_index_or (t ∷ []) k (record { subject = x; predicate = q; object = y }) ≡ record { subject = x; predicate = q; object = y } → t.object ≡ y
-          alone zero z e = ap (λ (u : Statement). u.object) e
-          alone (suc k) z e = absurd (omega arith)
-
-      by : (ts : List Statement) → length ts ≤ 1 → Contains ts (record { subject = x; predicate = q; object = m }) → Contains ts (record { subject = x; predicate = q; object = n }) → m ≡ n
-      by [] few c d = absurd (in_none _ c)
-      by (t ∷ []) few c d = sym (object_of t m c) ∙ object_of t n d
-      by (t ∷ u ∷ us) few c d = absurd (omega arith)
-
-  same_few : ((m n : Term) → InGraph g x q m → InGraph g x q n → m ≡ n) → length (values g x q) ≤ 1
-  same_few same = by (values g x q) refl
-    where
-      by : (ts : List Statement) → values g x q ≡ ts → length ts ≤ 1
-      by [] e = omega arith
-      by (t ∷ []) e = omega arith
-      by (t ∷ u ∷ us) e =
-          let here = λ (v : Statement) (c : Contains (t ∷ u ∷ us) v). values_in g x q v (subst (λ vs. Contains vs v) (sym e) c) in
-          absurd (objects_differ g x q t u us e (same t.object u.object (here t (in_first t (u ∷ us))) (here u (in_rest t (u ∷ us) u (in_first u us)))))
-
-  none_empty : ((o : Term) → ¬ (InGraph g x q o)) → length (values g x q) ≡ 0
-  none_empty none = by (values g x q) refl
-    where
-      by : (ts : List Statement) → values g x q ≡ ts → length ts ≡ 0
-      by [] e = refl
-      by (t ∷ ts) e = absurd (none t.object (values_in g x q t (subst (λ vs. Contains vs t) (sym e) (in_first t ts))))
-
-  pub empty_none : length (values g x q) ≡ 0 → (o : Term) → ¬ (InGraph g x q o)
-  empty_none l o h = none_in g x q o (nil (values g x q) l) h
-    where
-      nil : (ts : List Statement) → length ts ≡ 0 → ts ≡ []
-      nil [] e = refl
-      nil (t ∷ ts) e = absurd (omega arith)
-
-  pub one_few : is_one_path (values g x q) ≡ true → length (values g x q) ≤ 1
-  one_few one = by (values g x q) one
+  pub one_few : is_one_path (triples_of g x q) ≡ true → length (triples_of g x q) ≤ 1
+  one_few one = by (triples_of g x q) one
     where
       by : (ts : List Statement) → is_one_path ts ≡ true → length ts ≤ 1
       by [] e = omega arith
       by (t ∷ []) e = omega arith
       by (t ∷ u ∷ us) e = absurd (false≢true e)
 
-  one_is : is_one_path (values g x q) ≡ true → (y : Term) × InGraph g x q y × IsTrue (is_iri y)
-  one_is one = by (values g x q) refl one
+  one_is : is_one_path (triples_of g x q) ≡ true → (y : Term) × InGraph g x q y × IsTrue (is_iri y)
+  one_is one = by (triples_of g x q) refl one
     where
-      by : (ts : List Statement) → values g x q ≡ ts → is_one_path ts ≡ true → (y : Term) × InGraph g x q y × IsTrue (is_iri y)
+      by : (ts : List Statement) → triples_of g x q ≡ ts → is_one_path ts ≡ true → (y : Term) × InGraph g x q y × IsTrue (is_iri y)
       by [] e one = absurd (false≢true one)
-      by (t ∷ []) e one = (t.object, values_in g x q t (subst (λ vs. Contains vs t) (sym e) (in_first t [])), one)
+      by (t ∷ []) e one = (t.object, triples_of_in g x q t (subst (λ vs. Contains vs t) (sym e) (in_first t [])), one)
       by (t ∷ u ∷ us) e one = absurd (false≢true one)
 
-  is_one : (y : Term) → InGraph g x q y → IsTrue (is_iri y) → ((other : Term) → InGraph g x q other → other ≡ y) → is_one_path (values g x q) ≡ true
-  is_one y h iri one = by (values g x q) refl (same_few (λ m n k l. one m k ∙ sym (one n l)))
+  is_one : (y : Term) → InGraph g x q y → IsTrue (is_iri y) → ((other : Term) → InGraph g x q other → other ≡ y) → is_one_path (triples_of g x q) ≡ true
+  is_one y h iri one = by (triples_of g x q) refl (few_triples g x q (λ m n k l. one m k ∙ sym (one n l)))
     where
-      by : (ts : List Statement) → values g x q ≡ ts → length ts ≤ 1 → is_one_path ts ≡ true
+      by : (ts : List Statement) → triples_of g x q ≡ ts → length ts ≤ 1 → is_one_path ts ≡ true
       by [] e few = absurd (none_in g x q y e h)
-      by (t ∷ []) e few = ap is_iri (one t.object (values_in g x q t (subst (λ vs. Contains vs t) (sym e) (in_first t [])))) ∙ iri
+      by (t ∷ []) e few = ap is_iri (one t.object (triples_of_in g x q t (subst (λ vs. Contains vs t) (sym e) (in_first t [])))) ∙ iri
       by (t ∷ u ∷ us) e few = absurd (omega arith)
 
 pub thin_property : (shapes : Graph) (p : Term) → IsTrue (is_thin_property shapes p) ↔ IsThinProperty shapes p
@@ -100,18 +63,18 @@ thin_property shapes p = (to, from)
           predicate = y.0;
           is_path = y.1;
           is_predicate = y.2;
-          one_path = λ other k. few_same shapes p path (one_few shapes p path one) other y.0 k y.1;
-          one_minimum = few_same shapes p min_count (leb-true _ 1 (both_right (is_iri p && is_one_path (values shapes p path)) _ h3));
-          one_maximum = few_same shapes p max_count (leb-true _ 1 (both_right (is_iri p && is_one_path (values shapes p path) && leb (length (values shapes p min_count)) 1) _ h4));
-          no_property = empty_none shapes p property (eqb-true _ 0 (both_right (is_iri p && is_one_path (values shapes p path) && leb (length (values shapes p min_count)) 1 && leb (length (values shapes p max_count)) 1) _ h5));
-          no_target = empty_none shapes p target_node (eqb-true _ 0 (both_right (is_iri p && is_one_path (values shapes p path) && leb (length (values shapes p min_count)) 1 && leb (length (values shapes p max_count)) 1 && eqb (length (values shapes p property)) 0) _ h));
+          one_path = λ other k. same_values shapes p path (one_few shapes p path one) other y.0 k y.1;
+          one_minimum = same_values shapes p min_count (leb-true _ 1 (both_right (is_iri p && is_one_path (triples_of shapes p path)) _ h3));
+          one_maximum = same_values shapes p max_count (leb-true _ 1 (both_right (is_iri p && is_one_path (triples_of shapes p path) && leb (length (triples_of shapes p min_count)) 1) _ h4));
+          no_property = no_values shapes p property (eqb-true _ 0 (both_right (is_iri p && is_one_path (triples_of shapes p path) && leb (length (triples_of shapes p min_count)) 1 && leb (length (triples_of shapes p max_count)) 1) _ h5));
+          no_target = no_values shapes p target_node (eqb-true _ 0 (both_right (is_iri p && is_one_path (triples_of shapes p path) && leb (length (triples_of shapes p min_count)) 1 && leb (length (triples_of shapes p max_count)) 1 && eqb (length (triples_of shapes p property)) 0) _ h));
         }
 
     from : IsThinProperty shapes p → IsTrue (is_thin_property shapes p)
     from t =
         both_true _ _ (both_true _ _ (both_true _ _ (both_true _ _ (both_true _ _ t.named (is_one shapes p path t.predicate t.is_path t.is_predicate t.one_path))
-        (le-leb _ 1 (same_few shapes p min_count t.one_minimum))) (le-leb _ 1 (same_few shapes p max_count t.one_maximum)))
-        (eq-eqb _ 0 (none_empty shapes p property t.no_property))) (eq-eqb _ 0 (none_empty shapes p target_node t.no_target))
+        (le-leb _ 1 (few_triples shapes p min_count t.one_minimum))) (le-leb _ 1 (few_triples shapes p max_count t.one_maximum)))
+        (eq-eqb _ 0 (no_triples shapes p property t.no_property))) (eq-eqb _ 0 (no_triples shapes p target_node t.no_target))
 
 differ : (a b : Term) → is_eq (term_cmp a b) ≡ false → a ≢ b
 differ a b e same = false≢true (sym e ∙ ap (λ c. is_eq (term_cmp a c)) (sym same) ∙ term_tied a)
@@ -226,4 +189,4 @@ module _ (shapes : Graph) where
   fit_more ts i t lt at b holds says all = All-more (Fits shapes) ts i t lt all (subst (Fits shapes) at (says.0 holds))
 
   pub all_fit : (ts : List Statement) (i : ℕ) → ts ≡ triples shapes → length ts ≤ i → All (Fits shapes) (take i ts) → IsTrue true ↔ IsThinShapes shapes
-  all_fit ts i is le all = (λ _. fits_thin (subst (All (Fits shapes)) (take_whole ts i le ∙ is) all), λ _. refl)
+  all_fit ts i is le all = (λ _. fits_thin (subst (All (Fits shapes)) (take_all i ts le ∙ is) all), λ _. refl)

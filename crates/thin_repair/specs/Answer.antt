@@ -4,7 +4,7 @@ use Rattle.rdf_terms.specs.Graph.{Graph, triples, without}
 use Rattle.thin_repair.specs.declared.explanation.Explanation.{Explanation}
 use Rattle.thin_repair.specs.declared.explanation.Explanation.TheVariants.{NotThin, TooMany, Pair, NoPair}
 use Rattle.thin_repair.specs.Conformance.{Conforms}
-use Rattle.thin_repair.specs.Repair.{Minimal, NoneExplains}
+use Rattle.repair_problem.specs.Repair.{Minimal, NoneExplains}
 use Rattle.thin_repair.specs.ThinShapes.{IsThinShapes}
 
 -- the triples that a pair may delete or add: those of the data, and the offered ones that are not in it
@@ -16,6 +16,7 @@ abbrev pub IsAnswer : Graph → Graph → Graph → Explanation → Type 0
 IsAnswer shapes g offered NotThin = ¬ (IsThinShapes shapes)
 IsAnswer shapes g offered (TooMany n) = IsThinShapes shapes × (n ≡ candidate_count g offered) × (12 < n)
 IsAnswer shapes g offered (Pair adds deletes) =
-    IsThinShapes shapes × (candidate_count g offered ≤ 12) × Minimal (Conforms shapes) g (without offered g) adds deletes
+    IsThinShapes shapes × (candidate_count g offered ≤ 12)
+    × Minimal (Conforms shapes) g (without offered g) adds deletes
 IsAnswer shapes g offered NoPair =
     IsThinShapes shapes × (candidate_count g offered ≤ 12) × NoneExplains (Conforms shapes) g (without offered g)

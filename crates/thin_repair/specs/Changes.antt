@@ -7,7 +7,7 @@ use Rattle.rdf_terms.specs.Statement.{Statement, statement_cmp}
 use Rattle.rdf_terms.specs.Graph.{Graph, has, without, edited}
 use Rattle.thin_repair.specs.declared.requirement.Requirement.{Requirement}
 use Rattle.thin_repair.specs.Requirements.{are_met}
-use Rattle.thin_repair.specs.Repair.{Within}
+use Rattle.repair_problem.specs.Repair.{Within}
 
 -- the data g with the change c, where h is offered
 abbrev pub changed : Graph → Graph → Graph → Graph

@@ -1,26 +1,17 @@
 -- Which graphs conform to thin shapes, read from the triples of the shapes graph (SHACL 2017,
 -- sections 2 to 4). A thin property shape names no further shape, so nothing here is recursive.
-use Rattle.std.specs.Prelude.{◌≡◌, ℕ, ◌≤◌, ◌↔◌, IsTrue, length}
+use Rattle.std.specs.Prelude.{ℕ, ◌≤◌, None, decimal}
 use Rattle.rdf_terms.specs.declared.term.Term.{Term}
-use Rattle.rdf_terms.specs.Term.{term_cmp}
-use Rattle.rdf_terms.specs.Set.{Set, items}
-use Rattle.rdf_terms.specs.Set as set
-use Rattle.rdf_terms.specs.Graph.{Graph, has}
-use Rattle.thin_repair.specs.Vocabulary.{target_node, property, path, min_count, max_count, count_literal}
+use Rattle.rdf_terms.specs.declared.term.Term.TheVariants.{Literal}
+use Rattle.rdf_terms.specs.Graph.{Graph}
+use Rattle.rdf_terms.specs.Members.{InGraph, IsCount}
+use Rattle.rdf_terms.specs.Vocab.Sh.{target_node, property, path, min_count, max_count}
+use Rattle.rdf_terms.specs.Vocab.Xsd.{integer}
 
--- the graph has the triple with these terms
-abbrev pub InGraph : Graph → Term → Term → Term → Type 0
-InGraph g s p o = IsTrue (has g (record { subject = s; predicate = p; object = o }))
-
--- the set has exactly the terms with P
-abbrev pub IsSetOf : (Term → Type 0) → Set term_cmp → Type 0
-IsSetOf P terms = (y : Term) → IsTrue (set.has terms y) ↔ P y
-
--- exactly n terms have P
-pub record IsCount (P : Term → Type 0) (n : ℕ) : Type 0 where
-  pub terms : Set term_cmp
-  pub all : IsSetOf P terms
-  pub size : length (items terms) ≡ n
+-- the number n as an xsd:integer literal in its canonical form (XML Schema 2, section 3.3.13.2). Only
+-- numbers of at most 32 bits are counts; `decimal` writes at most 64 digits.
+abbrev pub count_literal : ℕ → Term
+count_literal n = Literal (decimal n) integer None
 
 -- x is a focus node of the shape s: a node target names it (section 2.1.3.1)
 abbrev pub Focus : Graph → Term → Term → Type 0

@@ -3,9 +3,9 @@ use Rattle.std.specs.Prelude.{◌≡◌, Bool, false, ◌&&◌, ◌==◌, nat_le
 use Rattle.rdf_terms.specs.declared.term.Term.{Term}
 use Rattle.rdf_terms.specs.Statement.{Statement, is_iri}
 use Rattle.rdf_terms.specs.Graph.{Graph}
-use Rattle.thin_repair.specs.Vocabulary.{target_node, property, path, min_count, max_count}
+use Rattle.rdf_terms.specs.Vocab.Sh.{target_node, property, path, min_count, max_count}
 use Rattle.thin_repair.specs.ThinShapes.{IsNotBlank, IsThinPredicate, IsThinProperty, IsThinCount}
-use Rattle.thin_repair.specs.Requirements.{values}
+use Rattle.rdf_terms.specs.Graph.{triples_of}
 
 -- one triple, whose object is an IRI
 abbrev pub is_one_path : List Statement → Bool
@@ -15,8 +15,9 @@ is_one_path (t ∷ u ∷ us) = false
 
 abbrev pub is_thin_property : Graph → Term → Bool
 is_thin_property shapes p =
-    is_iri p && is_one_path (values shapes p path) && nat_le (length (values shapes p min_count)) 1 && nat_le (length (values shapes p max_count)) 1
-    && (length (values shapes p property) == 0) && (length (values shapes p target_node) == 0)
+    is_iri p && is_one_path (triples_of shapes p path)
+    && nat_le (length (triples_of shapes p min_count)) 1 && nat_le (length (triples_of shapes p max_count)) 1
+    && (length (triples_of shapes p property) == 0) && (length (triples_of shapes p target_node) == 0)
 
 -- the terms of a triple may stand in thin shapes, where none of them is blank
 pub record FitsPredicate (shapes : Graph) (subject predicate object : Term) : Type 0 where

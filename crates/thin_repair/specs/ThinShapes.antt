@@ -5,8 +5,9 @@ use Rattle.rdf_terms.specs.declared.term.Term.{Term}
 use Rattle.rdf_terms.specs.declared.term.Term.TheVariants.{Iri, Blank, Literal}
 use Rattle.rdf_terms.specs.Statement.{Statement, is_iri}
 use Rattle.rdf_terms.specs.Graph.{Graph, has}
-use Rattle.thin_repair.specs.Vocabulary.{target_node, property, path, min_count, max_count, count_literal}
-use Rattle.thin_repair.specs.Conformance.{InGraph}
+use Rattle.rdf_terms.specs.Vocab.Sh.{target_node, property, path, min_count, max_count}
+use Rattle.thin_repair.specs.Conformance.{count_literal}
+use Rattle.rdf_terms.specs.Members.{InGraph}
 
 abbrev pub IsNotBlank : Term → Type 0
 IsNotBlank (Iri a) = Unit {0}

@@ -43,14 +43,15 @@ pub fn explain(
     if !is_thin(shapes) {
         return Ok(Explanation::NotThin);
     }
-    let none = Graph::new(alloc);
     let offers = offered.without(alloc, present)?;
-    let candidates = present.edited(alloc, &offers, &none)?;
-    if candidates.len() > MOST_CANDIDATES {
+    let count = present.as_slice().len() + offers.as_slice().len();
+    if count > MOST_CANDIDATES {
         return Ok(Explanation::TooMany {
-            candidates: candidates.len() as u64,
+            candidates: count as u64,
         });
     }
+    let none = Graph::new(alloc);
+    let candidates = present.edited(alloc, &offers, &none)?;
     let requirements = requirements_of(alloc, shapes)?;
     match least_change(
         alloc,

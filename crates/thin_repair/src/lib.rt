@@ -4,9 +4,7 @@
 mod change;
 mod count;
 mod explanation;
-mod lookup;
 mod requirement;
 mod thin;
-mod vocabulary;
 
 pub use explanation::{Explanation, explain};

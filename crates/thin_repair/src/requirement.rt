@@ -1,14 +1,15 @@
 ghost use Rattle.std.specs.Prelude.{◌≡◌, ◌++◌, List, IfOk, OnOk};
 ghost use Rattle.std.specs.List.{AllZip};
 ghost use Rattle.rdf_terms.specs.declared.term.Term.{Term as T};
-ghost use Rattle.thin_repair.specs.Conformance.{InGraph};
+ghost use Rattle.rdf_terms.specs.Members.{InGraph};
 ghost use Rattle.thin_repair.specs.ThinShapes.{IsThinShapes, IsThinProperty, IsThinCount};
-ghost use Rattle.thin_repair.specs.Requirements.{values, first_object, is_at_least, is_at_most, is_met, are_met, IsBound, Asks, pairs_of, AreRequirements};
-ghost use Rattle.thin_repair.specs.Vocabulary.{path as path_word};
+ghost use Rattle.rdf_terms.specs.Graph.{triples_of};
+ghost use Rattle.thin_repair.specs.Requirements.{first_object, is_at_least, is_at_most, is_met, are_met};
+ghost use Rattle.thin_repair.specs.Requirements.{IsBound, Asks, pairs_of, AreRequirements};
+ghost use Rattle.rdf_terms.specs.Vocab.Sh.{path as path_word};
 
 use crate::count::count_of;
-use crate::lookup::values_of;
-use crate::vocabulary::{MAX_COUNT, MIN_COUNT, PATH, PROPERTY, TARGET_NODE, is_iri};
+use rdf_terms::vocab::sh;
 use rdf_terms::{Graph, OutOfMemory, Term, Text};
 use std::alloc::Global;
 
@@ -44,7 +45,7 @@ impl Requirement {
     fn is_met_by(&self, graph: &Graph) -> bool
         ensures { result ≡ is_met graph.now self.now }
     {
-        let count = values_of(graph, &self.focus, self.path.as_str()).len();
+        let count = graph.triples_of(&self.focus, self.path.as_str()).len();
         is_at_least(self.least, count) && is_at_most(self.most, count)
     }
 }
@@ -61,9 +62,9 @@ pub fn are_met(requirements: &[Requirement], graph: &Graph) -> bool
 /// The path of a property shape.
 fn path_of<'a>(shapes: &'a Graph, shape: &Term) -> &'a Text
     requires { IsThinProperty shapes.now shape.now }
-    ensures { first_object (values shapes.now shape.now path_word) ≡ Some (Term.Iri result.now) }
+    ensures { first_object (triples_of shapes.now shape.now path_word) ≡ Some (Term.Iri result.now) }
 {
-    let [triple, ..] = values_of(shapes, shape, PATH) else {
+    let [triple, ..] = shapes.triples_of(shape, sh::PATH) else {
         unreachable!()
     };
     match &triple.object {
@@ -77,7 +78,7 @@ fn bound_of(shapes: &Graph, shape: &Term, predicate: &str) -> Option<u32>
     requires { (o : T) → InGraph shapes.now shape.now (Term.Iri predicate.now) o → IsThinCount o }
     ensures { IsBound shapes.now shape.now (Term.Iri predicate.now) result }
 {
-    match values_of(shapes, shape, predicate) {
+    match shapes.triples_of(shape, predicate) {
         [] => None,
         [triple, ..] => count_of(&triple.object),
     }
@@ -97,8 +98,8 @@ fn requirement_of(
     Ok(Requirement {
         focus: focus.copy(alloc)?,
         path: path_of(shapes, shape).copy(alloc)?,
-        least: bound_of(shapes, shape, MIN_COUNT),
-        most: bound_of(shapes, shape, MAX_COUNT),
+        least: bound_of(shapes, shape, sh::MIN_COUNT),
+        most: bound_of(shapes, shape, sh::MAX_COUNT),
     })
 }
 
@@ -115,7 +116,7 @@ fn push_requirements(
     ensures { OnOk result ((before : List (T × T)) → AllZip (Asks shapes.now) before requirements.old.items
         → AllZip (Asks shapes.now) (before ++ pairs_of shapes.now shape.now focus.now) requirements.new.items) }
 {
-    for triple in values_of(shapes, shape, PROPERTY) {
+    for triple in shapes.triples_of(shape, sh::PROPERTY) {
         requirements.push(requirement_of(alloc, shapes, focus, &triple.object)?)?;
     }
     Ok(())
@@ -129,7 +130,7 @@ pub fn requirements_of(alloc: Global, shapes: &Graph) -> Result<Vec<Requirement>
 {
     let mut requirements = Vec::new(alloc);
     for triple in shapes.as_slice() {
-        if is_iri(&triple.predicate, TARGET_NODE) {
+        if triple.predicate.is_named(sh::TARGET_NODE) {
             push_requirements(
                 alloc,
                 shapes,

@@ -3,8 +3,7 @@ ghost use Rattle.thin_repair.specs.ThinShapes.{IsNotBlank, IsThinShapes};
 ghost use Rattle.thin_repair.specs.ThinChecks.{is_one_path, is_thin_property, FitsPredicate, Fits};
 
 use crate::count::count_of;
-use crate::lookup::values_of;
-use crate::vocabulary::{MAX_COUNT, MIN_COUNT, PATH, PROPERTY, TARGET_NODE, is_iri};
+use rdf_terms::vocab::sh;
 use rdf_terms::{Graph, Term, Triple};
 
 /// Whether the triples are one, whose object is an IRI.
@@ -23,11 +22,11 @@ fn is_thin_property(shapes: &Graph, shape: &Term) -> bool
     ensures { result ≡ is_thin_property shapes.now shape.now }
 {
     let named = matches!(shape, Term::Iri(_));
-    let paths = values_of(shapes, shape, PATH);
-    let minimums = values_of(shapes, shape, MIN_COUNT);
-    let maximums = values_of(shapes, shape, MAX_COUNT);
-    let properties = values_of(shapes, shape, PROPERTY);
-    let targets = values_of(shapes, shape, TARGET_NODE);
+    let paths = shapes.triples_of(shape, sh::PATH);
+    let minimums = shapes.triples_of(shape, sh::MIN_COUNT);
+    let maximums = shapes.triples_of(shape, sh::MAX_COUNT);
+    let properties = shapes.triples_of(shape, sh::PROPERTY);
+    let targets = shapes.triples_of(shape, sh::TARGET_NODE);
     named
         && is_one_path(paths)
         && minimums.len() <= 1
@@ -49,16 +48,16 @@ fn is_not_blank(term: &Term) -> bool
 fn fits_predicate(shapes: &Graph, subject: &Term, predicate: &Term, object: &Term) -> bool
     ensures { IsTrue result ↔ FitsPredicate shapes.now subject.now predicate.now object.now }
 {
-    if is_iri(predicate, TARGET_NODE) {
+    if predicate.is_named(sh::TARGET_NODE) {
         return true;
     }
-    if is_iri(predicate, PROPERTY) {
+    if predicate.is_named(sh::PROPERTY) {
         return is_thin_property(shapes, object);
     }
-    if is_iri(predicate, PATH) {
+    if predicate.is_named(sh::PATH) {
         return is_thin_property(shapes, subject);
     }
-    if is_iri(predicate, MIN_COUNT) || is_iri(predicate, MAX_COUNT) {
+    if predicate.is_named(sh::MIN_COUNT) || predicate.is_named(sh::MAX_COUNT) {
         return is_thin_property(shapes, subject) && count_of(object).is_some();
     }
     false

@@ -1,6 +1,6 @@
 use Rattle.std.proofs.Common.{◌≡◌, ◌++◌, take}
 use Rattle.rdf_terms.specs.Graph.{triples}
-use Rattle.certificates.specs.DocumentText.{lines_with}
+use Rattle.proof_documents.specs.DocumentText.{lines_with}
 use Rattle.explain_cli.proofs.claim.append_lines.Given as goal
 
 abbrev pub invariant-loop-triple : goal.invariant-loop-triple

@@ -1,6 +1,6 @@
 use Rattle.std.proofs.Common.{◌≡◌, Bool, true, false, not, nat_eq, codes, ◌++◌, refl, sym, ap, ◌∙◌, append_assoc}
 use Rattle.std.specs.Cmp.Lexicographic.{pointwise}
-use Rattle.rdf_grammar.specs.Lawful.{xsd_string}
+use Rattle.rdf_terms.specs.Vocab.Xsd.{string as xsd_string}
 use Rattle.ntriples_io.specs.CanonicalText.{bracketed}
 use Rattle.ntriples_io.proofs.writing.push_datatype.Goals as goal
 

@@ -16,5 +16,7 @@ loop-at-preserved g c =
       taken = rw c.in-Ok-append.ensures.ok (taken_more (g.H.Shelf.held c.args.shelf.now) c.args.name.now c.loop-at.at c.in-Ok-pull.count c.loop-at.bytes c.pull-in-loop-at.new.buf pos c.loop-at.invariant.taken p);
       kept = search rules;
       count = search rules;
+      few = search rules;
+      unasked = search rules;
       others = search rules;
     }

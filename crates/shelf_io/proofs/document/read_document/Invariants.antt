@@ -1,4 +1,4 @@
-use Rattle.std.proofs.Common.{◌≡◌, ◌≢◌, ◌≤◌, ◌-◌, ◌^◌, List, ℕ}
+use Rattle.std.proofs.Common.{◌≡◌, ◌≢◌, ◌≤◌, ◌+◌, ◌-◌, ◌^◌, min, List, ℕ}
 use Rattle.shelf_io.proofs.Gains.{Takes}
 use Rattle.shelf_io.proofs.document.read_document.Given as goal
 
@@ -9,6 +9,8 @@ invariant-loop-at g l =
       taken : Takes (g.H.Shelf.held l.fn.shelf) l.name l.at l.bytes;
       kept : g.H.Shelf.held l.shelf ≡ g.H.Shelf.held l.fn.shelf;
       count : (any : List ℕ) → g.H.Shelf.faults l.fn.shelf any ≤ g.H.Shelf.faults l.shelf any;
+      few : g.H.Shelf.pulls l.shelf l.name ≤ g.H.Shelf.pulls l.fn.shelf l.name + (1 + min l.at (2 ^ 30 + 1));
+      unasked : (other : List ℕ) → other ≢ l.name → g.H.Shelf.pulls l.shelf other ≡ g.H.Shelf.pulls l.fn.shelf other;
       others : (other : List ℕ) → other ≢ l.name → g.H.Shelf.faults l.shelf other ≡ g.H.Shelf.faults l.fn.shelf other;
     }
 

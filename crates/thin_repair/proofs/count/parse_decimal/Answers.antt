@@ -1,6 +1,6 @@
 use Rattle.std.proofs.Common.{◌≡◌, ◌≢◌, ◌<◌, ◌^◌, ℕ, List, Result, Ok, Err, MatchOption, decimal, sym, ap, ◌∙◌, arith}
 use Rattle.std.specs.Result.{OkIff, result_ok}
-use Rattle.thin_repair.proofs.Decimals.{small_decimal}
+use Rattle.numerals.proofs.SmallDecimals.{small_decimal}
 use Rattle.thin_repair.proofs.count.parse_decimal.Goals as goal
 
 -- a number that fits is the one that is spelled, and where it doesn't, no number that fits is
@@ -12,4 +12,4 @@ narrowed text n (Err e) large is = λ m small is_m.
 
 pub returns : goal.returns
 returns c =
-    rw c.ok.ensures.value (narrowed c.args.text.now c.in_ok-read_numeral.field-0 c.try_from.result c.try_from.ensures c.in_ok-read_numeral.ensures)
+    rw c.ok.ensures.value (narrowed c.args.text.now c.in_ok-parse_numeral.field-0 c.try_from.result c.try_from.ensures c.in_ok-parse_numeral.ensures)

@@ -6,4 +6,4 @@ use Rattle.rdf_terms.proofs.graph.Graph.as_slice.Goals as goal
 
 pub returns : goal.returns
 returns c =
-    c.as_slice.ensures.value ∙ sym (items-of_rising statement_cmp c.self.inside.items.items c.self.invariant) ∙ ap triples c.self.view_is
+    c.as_slice.ensures.value ∙ sym (items-of_rising statement_cmp c.self.inside.items.items c.self.invariant.0) ∙ ap triples c.self.view_is

@@ -1,42 +1,24 @@
-use Rattle.std.proofs.Common.{◌<◌, ap, sym, ◌∙◌, not, cond, length, arith, rules}
-use Rattle.rdf_terms.specs.Graph.{has, with}
+use Rattle.std.proofs.Common.{◌≡◌, ◌++◌, refl, ap, ◌∙◌, subst, IfOk, take_all}
+use Rattle.rdf_terms.specs.Graph.{has, triples, without, of_list}
+use Rattle.rdf_terms.proofs.GraphLaws.{has-edited}
+use Rattle.std.proofs.lemmas.Result.{IfOk-weaker}
 use Rattle.rdf_terms.specs.TermOrder.{statement_cmp_total, statement_cmp-IsAntisymmetric}
-use Rattle.rdf_terms.proofs.Membership.{without-empty}
-use Rattle.rdf_terms.proofs.Merges.{merged_kept, merged_added, merged_all}
+use Rattle.rdf_terms.proofs.Membership.{sorted_once, sorted_once_rises, of_list-edited}
 use Rattle.rdf_terms.proofs.graph.Graph.edited.Goals as goal
 
-pub merging-init : goal.merging-init
-merging-init c = record {
-  made = c.new-made.ensures ∙ sym (without-empty statement_cmp_total statement_cmp-IsAntisymmetric c.args.delete.now);
-  kept = omega arith;
-  added = omega arith;
-}
+pub from_rising-requires : goal.from_rising-requires
+from_rising-requires c =
+    sorted_once_rises statement_cmp_total statement_cmp-IsAntisymmetric (λ x y. refl) _ _ _ c.sort.ensures.permutation c.in_ok-sort.ensures.sorted c.dedup.ensures.filtered
 
-pub merging-preserved-in-First : goal.merging-preserved-in-First
-merging-preserved-in-First c =
-    let within : c.merging.kept < length c.as_slice-mine.result.now = search rules in
-    record {
-      made = c.in_ok-insert_copy-in-First.ensures
-          ∙ ap (λ g. cond (not (has c.args.delete.now c.index-mine-kept.result)) (with g c.index-mine-kept.result) g) c.merging.invariant.made
-          ∙ sym (merged_kept statement_cmp_total statement_cmp-IsAntisymmetric c.args.self.now c.args.add.now c.args.delete.now c.merging.kept c.merging.added c.index-mine-kept.result
-          (rw (← c.as_slice-mine.ensures) within) (rw (← c.as_slice-mine.ensures) c.index-mine-kept.is));
-      kept = omega arith;
-      added = c.merging.invariant.added;
-    }
+pub returns-clause-value : goal.returns-clause-value
+returns-clause-value c =
+    let made = sorted_once statement_cmp_total statement_cmp-IsAntisymmetric (λ x y. refl) _ _ _ c.sort.ensures.permutation c.in_ok-sort.ensures.sorted c.dedup.ensures.filtered in
+    let listed = c.adding.invariant ∙ ap (λ ts. triples (without c.args.self.now c.args.delete.now) ++ ts) (take_all c.adding.triple-index c.as_slice-triple-items.result.now c.adding-test.false ∙ c.as_slice-triple-items.ensures) in
+    subst (λ g. IfOk c.from_rising.result (λ h. h ≡ g)) (made ∙ ap of_list listed ∙ of_list-edited statement_cmp_total statement_cmp-IsAntisymmetric c.args.self.now c.args.add.now c.args.delete.now) c.from_rising.ensures
 
-pub merging-preserved : goal.merging-preserved
-merging-preserved c =
-    let within : c.merging.added < length c.as_slice-theirs.result.now = search rules in
-    record {
-      made = c.in_ok-insert-in-Second.ensures.ok ∙ ap (λ t. with c.merging.made t) c.in_ok-copy-in-Second.ensures ∙ ap (λ g. with g c.index-theirs-added.result) c.merging.invariant.made
-          ∙ sym (merged_added statement_cmp_total statement_cmp-IsAntisymmetric c.args.self.now c.args.add.now c.args.delete.now c.merging.kept c.merging.added c.index-theirs-added.result
-          (rw (← c.as_slice-theirs.ensures) within) (rw (← c.as_slice-theirs.ensures) c.index-theirs-added.is));
-      kept = c.merging.invariant.kept;
-      added = omega arith;
-    }
-
-pub returns : goal.returns
-returns c =
-    let ends = c.in_default.ensures.end in
-    c.merging.invariant.made ∙ merged_all statement_cmp_total statement_cmp-IsAntisymmetric c.args.self.now c.args.add.now c.args.delete.now c.merging.kept c.merging.added
-    (rw (← c.as_slice-mine.ensures) ends.0) (rw (← c.as_slice-theirs.ensures) ends.1)
+pub returns-clause-exact : goal.returns-clause-exact
+returns-clause-exact c =
+    let made = sorted_once statement_cmp_total statement_cmp-IsAntisymmetric (λ x y. refl) _ _ _ c.sort.ensures.permutation c.in_ok-sort.ensures.sorted c.dedup.ensures.filtered in
+    let listed = c.adding.invariant ∙ ap (λ ts. triples (without c.args.self.now c.args.delete.now) ++ ts) (take_all c.adding.triple-index c.as_slice-triple-items.result.now c.adding-test.false ∙ c.as_slice-triple-items.ensures) in
+    let all = made ∙ ap of_list listed ∙ of_list-edited statement_cmp_total statement_cmp-IsAntisymmetric c.args.self.now c.args.add.now c.args.delete.now in
+    IfOk-weaker c.from_rising.result _ _ (λ g e t. ap (λ h. has h t) (e ∙ all) ∙ has-edited c.args.self.now c.args.add.now c.args.delete.now t) c.from_rising.ensures

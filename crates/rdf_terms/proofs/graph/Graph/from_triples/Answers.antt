@@ -1,20 +1,21 @@
-use Rattle.std.proofs.Common.{ap, sym, ◌∙◌}
-use Rattle.std.proofs.lemmas.Iterator.Adapters.{YieldsList-from_vec}
-use Rattle.std.proofs.lemmas.Iterator.Consumers.{YieldsList-end}
-use Rattle.std.proofs.lemmas.List.{map-id}
-use Rattle.rdf_terms.specs.Graph.{with, of_list, empty}
+use Rattle.std.proofs.Common.{◌≡◌, ◌↔◌, IsTrue, Contains, IfOk, refl, sym, ap, ◌∙◌, subst}
+use Rattle.rdf_terms.specs.Graph.{has, of_list}
 use Rattle.rdf_terms.specs.TermOrder.{statement_cmp_total, statement_cmp-IsAntisymmetric}
-use Rattle.rdf_terms.proofs.Membership.{including-snoc, of_list-permutation}
+use Rattle.std.proofs.lemmas.Result.{IfOk-weaker}
+use Rattle.rdf_terms.proofs.GraphLaws.{of_list_is}
+use Rattle.rdf_terms.proofs.Membership.{sorted_once, sorted_once_rises}
 use Rattle.rdf_terms.proofs.graph.Graph.from_triples.Goals as goal
 
-pub inserting-preserved : goal.inserting-preserved
-inserting-preserved c =
-    c.in_ok-insert.ensures.ok ∙ ap (λ g. with g c.in-Some.triple) c.inserting.invariant
-    ∙ sym (including-snoc statement_cmp_total statement_cmp-IsAntisymmetric empty c.inserting.yielded c.in-Some.triple)
+pub from_rising-requires : goal.from_rising-requires
+from_rising-requires c =
+    sorted_once_rises statement_cmp_total statement_cmp-IsAntisymmetric (λ x y. refl) _ _ _ c.sort_unstable.ensures.permutation c.sort_unstable.ensures.sorted c.dedup.ensures.filtered
 
-pub returns : goal.returns
-returns c =
-    let gives = c.into_iter-triple-iterator.ensures.into_iter_gives in
-    let all = YieldsList-end (YieldsList-from_vec {s = c.into_iter-triple-iterator.result} _ gives.0 (gives.1 ∙ c.sort.new.self.ok.0)) c.inserting.yielded c.inserting.triple-iterator c.inserting.yielded_by c.next.result c.next.new.self c.in-None.is c.next.ensures.steps in
-    c.inserting.invariant ∙ ap of_list (sym (map-id c.inserting.yielded) ∙ all.0)
-    ∙ of_list-permutation statement_cmp_total statement_cmp-IsAntisymmetric _ _ c.sort.ensures.permutation ∙ ap of_list c.into_vec-sorted.ensures
+pub returns-clause-value : goal.returns-clause-value
+returns-clause-value c =
+    let made = sorted_once statement_cmp_total statement_cmp-IsAntisymmetric (λ x y. refl) _ _ _ c.sort_unstable.ensures.permutation c.sort_unstable.ensures.sorted c.dedup.ensures.filtered in
+    subst (λ g. IfOk c.from_rising.result (λ h. h ≡ g)) (made ∙ ap of_list c.into_vec-items.ensures) c.from_rising.ensures
+
+pub returns-clause-exact : goal.returns-clause-exact
+returns-clause-exact c =
+    let made = sorted_once statement_cmp_total statement_cmp-IsAntisymmetric (λ x y. refl) _ _ _ c.sort_unstable.ensures.permutation c.sort_unstable.ensures.sorted c.dedup.ensures.filtered in
+    IfOk-weaker c.from_rising.result _ _ (λ g e t. subst (λ h. IsTrue (has h t) ↔ Contains c.args.triples t) (sym (e ∙ made ∙ ap of_list c.into_vec-items.ensures)) (of_list_is c.args.triples t)) c.from_rising.ensures

@@ -1,20 +1,17 @@
-use Rattle.std.proofs.Common.{ap, sym, ◌∙◌, not, cond, take}
-use Rattle.rdf_terms.specs.Graph.{has, with}
-use Rattle.rdf_terms.specs.Set.{of_list, without}
-use Rattle.rdf_terms.specs.TermOrder.{statement_cmp_total, statement_cmp-IsAntisymmetric}
-use Rattle.rdf_terms.proofs.Membership.{without-empty}
-use Rattle.rdf_terms.proofs.Merges.{kept_next, kept_all}
+use Rattle.std.proofs.Common.{◌≡◌, true, ap, sym, ◌∙◌, subst, IfOk}
+use Rattle.rdf_terms.specs.Graph.{has, graph_of, without, is_rising}
+use Rattle.rdf_terms.proofs.GraphLaws.{triples_rise, graph_of-triples, has-without}
+use Rattle.std.proofs.lemmas.Result.{IfOk-weaker}
 use Rattle.rdf_terms.proofs.graph.Graph.without.Goals as goal
 
-pub keeping-init : goal.keeping-init
-keeping-init c = c.new-made.ensures ∙ sym (without-empty statement_cmp_total statement_cmp-IsAntisymmetric c.args.other.now)
+pub from_rising-requires : goal.from_rising-requires
+from_rising-requires c = subst (λ ts. is_rising ts ≡ true) (sym c.in_ok-items.ensures) (triples_rise (without c.args.self.now c.args.other.now))
 
-pub keeping-preserved : goal.keeping-preserved
-keeping-preserved c =
-    c.in_ok-insert_copy.ensures ∙ ap (λ g. cond (not (has c.args.other.now c.triple-item.result)) (with g c.triple-item.result) g) c.keeping.invariant
-    ∙ sym (kept_next statement_cmp_total statement_cmp-IsAntisymmetric c.args.other.now c.as_slice-triple-items.result.now c.keeping.triple-index c.triple-item.result c.keeping-test.true c.triple-item.is)
+pub returns-clause-value : goal.returns-clause-value
+returns-clause-value c =
+    subst (λ g. IfOk c.from_rising.result (λ h. h ≡ g)) (ap graph_of c.in_ok-items.ensures ∙ graph_of-triples (without c.args.self.now c.args.other.now)) c.from_rising.ensures
 
-pub returns : goal.returns
-returns c =
-    c.keeping.invariant ∙ ap (λ ts. without (of_list (take c.keeping.triple-index ts)) c.args.other.now) c.as_slice-triple-items.ensures
-    ∙ kept_all statement_cmp_total statement_cmp-IsAntisymmetric c.args.self.now c.args.other.now c.keeping.triple-index (rw (← c.as_slice-triple-items.ensures) c.keeping-test.false)
+pub returns-clause-exact : goal.returns-clause-exact
+returns-clause-exact c =
+    let made = ap graph_of c.in_ok-items.ensures ∙ graph_of-triples (without c.args.self.now c.args.other.now) in
+    IfOk-weaker c.from_rising.result _ _ (λ g e t. ap (λ h. has h t) (e ∙ made) ∙ has-without c.args.self.now c.args.other.now t) c.from_rising.ensures

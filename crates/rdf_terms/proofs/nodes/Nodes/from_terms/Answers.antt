@@ -1,20 +1,19 @@
-use Rattle.std.proofs.Common.{ap, sym, ◌∙◌}
-use Rattle.std.proofs.lemmas.Iterator.Adapters.{YieldsList-from_vec}
-use Rattle.std.proofs.lemmas.Iterator.Consumers.{YieldsList-end}
-use Rattle.std.proofs.lemmas.List.{map-id}
-use Rattle.rdf_terms.specs.Nodes.{with, nodes_of_list, empty}
+use Rattle.std.proofs.Common.{refl, ap, sym, ◌∙◌, subst, IsTrue, Contains, ◌↔◌}
+use Rattle.rdf_terms.specs.Nodes.{has_term, nodes_of_list}
 use Rattle.rdf_terms.specs.TermOrder.{term_cmp_total, term_cmp-IsAntisymmetric}
-use Rattle.rdf_terms.proofs.Membership.{including-snoc, of_list-permutation}
+use Rattle.rdf_terms.proofs.Membership.{sorted_once, sorted_once_rises}
+use Rattle.rdf_terms.proofs.NodesLaws.{nodes_of_list_is}
 use Rattle.rdf_terms.proofs.nodes.Nodes.from_terms.Goals as goal
 
-pub inserting-preserved : goal.inserting-preserved
-inserting-preserved c =
-    c.in_ok-insert.ensures ∙ ap (λ g. with g c.in-Some.term) c.inserting.invariant
-    ∙ sym (including-snoc term_cmp_total term_cmp-IsAntisymmetric empty c.inserting.yielded c.in-Some.term)
+pub invariant_of-result : goal.invariant_of-result
+invariant_of-result c =
+    sorted_once_rises term_cmp_total term_cmp-IsAntisymmetric (λ x y. refl) _ _ _ c.sort_unstable.ensures.permutation c.sort_unstable.ensures.sorted c.dedup.ensures.filtered
 
-pub returns : goal.returns
-returns c =
-    let gives = c.into_iter-term-iterator.ensures.into_iter_gives in
-    let all = YieldsList-end (YieldsList-from_vec {s = c.into_iter-term-iterator.result} _ gives.0 (gives.1 ∙ c.sort.new.self.ok.0)) c.inserting.yielded c.inserting.term-iterator c.inserting.yielded_by c.next.result c.next.new.self c.in-None.is c.next.ensures.steps in
-    c.inserting.invariant ∙ ap nodes_of_list (sym (map-id c.inserting.yielded) ∙ all.0)
-    ∙ of_list-permutation term_cmp_total term_cmp-IsAntisymmetric _ _ c.sort.ensures.permutation ∙ ap nodes_of_list c.into_vec-sorted.ensures
+pub returns-clause-value : goal.returns-clause-value
+returns-clause-value c =
+    sorted_once term_cmp_total term_cmp-IsAntisymmetric (λ x y. refl) _ _ _ c.sort_unstable.ensures.permutation c.sort_unstable.ensures.sorted c.dedup.ensures.filtered ∙ ap nodes_of_list c.into_vec-items.ensures
+
+pub returns-clause-exact : goal.returns-clause-exact
+returns-clause-exact c =
+    let made = sorted_once term_cmp_total term_cmp-IsAntisymmetric (λ x y. refl) _ _ _ c.sort_unstable.ensures.permutation c.sort_unstable.ensures.sorted c.dedup.ensures.filtered ∙ ap nodes_of_list c.into_vec-items.ensures in
+    λ t. subst (λ n. IsTrue (has_term n t) ↔ Contains c.args.terms t) (sym made) (nodes_of_list_is c.args.terms t)

@@ -1,0 +1,5 @@
+//! Tests of the crates that stand below the commands.
+#![tactic(auto)]
+
+#[cfg(test)]
+mod tests;

@@ -1,5 +1,0 @@
-use Rattle.certificates.proofs.ProofLines.{line_is_text}
-use Rattle.certificates.proofs.proof_line.read_proof_line.Goals as goal
-
-pub returns-in-Err-clause-only : goal.returns-in-Err-clause-only
-returns-in-Err-clause-only c = λ line h. absurd (c.in-Err.ensures.cases.0 (line_is_text c.args.text.now line h))

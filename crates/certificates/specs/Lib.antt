@@ -1,9 +1,0 @@
-pub mod Applying
-pub mod Document
-pub mod DocumentText
-pub mod Lines
-pub mod Refusing
-pub mod Stages
-pub mod Taking
-pub mod Text
-pub mod Words

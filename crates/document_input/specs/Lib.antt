@@ -1,0 +1,5 @@
+pub mod NamedDocument
+pub mod Notes
+pub mod Parsing
+pub mod Reading
+pub mod Told

@@ -1,0 +1,48 @@
+-- How a document and a refusal are written in the notes.
+use Rattle.std.specs.Prelude.{ℕ, List, ◌++◌, codes, decimal}
+use Rattle.document_input.specs.declared.role.Role.{Role}
+use Rattle.document_input.specs.declared.role.Role.TheVariants.{Shapes, Data, Offered, Document}
+use Rattle.document_input.specs.declared.refusal.GraphRefusal.{GraphRefusal}
+use Rattle.document_input.specs.declared.refusal.GraphRefusal.TheVariants.{TooLong, NotReadYet, Line}
+use Rattle.document_input.specs.declared.refusal.DocumentRefusal.{DocumentRefusal}
+use Rattle.document_input.specs.declared.refusal.DocumentRefusal.TheVariants.{TooLong as TooLongClaim}
+use Rattle.document_input.specs.declared.refusal.DocumentRefusal.TheVariants.{Line as ClaimLine}
+use Rattle.document_input.specs.declared.refusal.ShapesRefusal.{ShapesRefusal}
+use Rattle.document_input.specs.declared.refusal.ShapesRefusal.TheVariants.{NotReadYet as ShapesNotReadYet}
+use Rattle.document_input.specs.declared.refusal.ClaimRefusal.{ClaimRefusal}
+use Rattle.document_input.specs.declared.refusal.ClaimRefusal.TheVariants.{NoPair, PairOutside}
+use Rattle.document_input.specs.declared.refusal.InputRefusal.{InputRefusal}
+use Rattle.document_input.specs.declared.refusal.InputRefusal.TheVariants.{Graph as OfGraph, Document as OfDocument}
+use Rattle.document_input.specs.declared.refusal.InputRefusal.TheVariants.{Shapes as OfShapes, Claim as OfClaim}
+
+abbrev pub role_text : Role → List ℕ
+role_text Shapes = codes "SHAPES"
+role_text Data = codes "DATA"
+role_text Offered = codes "OFFERED"
+role_text Document = codes "DOCUMENT"
+
+abbrev pub graph_text : GraphRefusal → List ℕ
+graph_text TooLong = codes "too long"
+graph_text NotReadYet = codes "not read yet"
+graph_text (Line number) = codes "line " ++ decimal number
+
+abbrev pub document_text : DocumentRefusal → List ℕ
+document_text TooLongClaim = codes "too long"
+document_text (ClaimLine number) = codes "line " ++ decimal number
+
+abbrev pub shapes_text : ShapesRefusal → List ℕ
+shapes_text ShapesNotReadYet = codes "not read yet"
+
+abbrev pub claim_text : ClaimRefusal → List ℕ
+claim_text NoPair = codes "no pair"
+claim_text (PairOutside number) = codes "pair outside line " ++ decimal number
+
+-- the role of a document, and the reason
+abbrev pub blame_text : Role → List ℕ → List ℕ
+blame_text role reason = role_text role ++ codes ": " ++ reason
+
+abbrev pub refusal_text : InputRefusal → List ℕ
+refusal_text (OfGraph role refusal) = blame_text role (graph_text refusal)
+refusal_text (OfDocument refusal) = blame_text Document (document_text refusal)
+refusal_text (OfShapes refusal) = blame_text Shapes (shapes_text refusal)
+refusal_text (OfClaim refusal) = blame_text Document (claim_text refusal)

@@ -1,0 +1,102 @@
+-- The status of what a call means to write, and how a call ends.
+use Rattle.std.proofs.Common.{◌≡◌, ◌≢◌, ℕ, ◌⊎◌, inl, inr, List, [], ◌∷◌, None, Some, Result, Ok, sym, ap, ◌∙◌, subst}
+use Rattle.shelf_io.specs.Held.{Held}
+use Rattle.command_words.specs.declared.words.Command.{Command}
+use Rattle.command_words.specs.declared.words.Command.TheVariants.{Explain, Apply}
+use Rattle.command_words.specs.Words.{words_of}
+use Rattle.document_input.specs.Told.{Change, ShelfTold}
+use Rattle.explain_cli.specs.declared.report.Report.{Report}
+use Rattle.explain_cli.specs.declared.status.Status.{Status}
+use Rattle.explain_cli.specs.declared.status.Status.TheVariants.{Done, No, Input, Read, Write, Memory, TooMany}
+use Rattle.explain_cli.specs.Answer.{IsOneOf, statuses_of, IsAnswer, IsAnswerIn, CommandMeans, MeansFor}
+use Rattle.explain_cli.specs.Causes.{cut_short}
+use Rattle.explain_cli.specs.Input.{Contents, Refuses, RefusesIn}
+use Rattle.explain_cli.specs.Outcome.{SinkTold, Outcome}
+use Rattle.explain_cli.proofs.Ready.{IsReady}
+
+-- ---- the statuses of answers
+
+-- the statuses that some command answers with
+abbrev pub own : List Status
+own = Done ∷ No ∷ TooMany ∷ []
+
+pub own_statuses : (command : Command) (status : Status) → IsOneOf (statuses_of command) status → IsOneOf own status
+own_statuses (Explain s p o) status is = is
+own_statuses (Apply p d) status (inl e) = inl e
+own_statuses (Apply p d) status (inr e) = absurd e
+
+pub answer_status : (command : Command) (held : Contents) (report : Report) → IsAnswer command held report → IsOneOf (statuses_of command) report.status
+answer_status (Explain s p o) held report (inl pair) = inl (ap (λ (r : Report). r.status) pair.texts)
+answer_status (Explain s p o) held report (inr (inl none)) = inr (inl (ap (λ (r : Report). r.status) none.texts))
+answer_status (Explain s p o) held report (inr (inr many)) = inr (inr (inl (ap (λ (r : Report). r.status) many.texts)))
+answer_status (Apply p d) held report written = inl (ap (λ (r : Report). r.status) written.texts)
+
+-- an answer shows that the input is in order
+pub answer_ready : (command : Command) (held : Contents) (report : Report) → IsAnswer command held report → IsReady command held
+answer_ready (Explain s p o) held report (inl pair) = (pair.graphs, pair.input)
+answer_ready (Explain s p o) held report (inr (inl none)) = (none.graphs, none.input)
+answer_ready (Explain s p o) held report (inr (inr many)) = (many.graphs, many.input)
+answer_ready (Apply p d) held report written =
+    record { present = written.present; claim = written.claim; documents = written.documents; made = written.made; edits = written.edits }
+
+-- ---- every command
+
+status_in : (command : Command) (held : Held) (report : Report) → IsAnswerIn command held report → IsOneOf (statuses_of command) report.status
+status_in command None report answer = answer
+status_in command (Some held) report answer = answer_status command held report answer
+
+pub not_own : (s : Status) → s ≢ Done → s ≢ No → s ≢ TooMany → IsOneOf own s → ⊥
+not_own s done none many (inl e) = done e
+not_own s done none many (inr (inl e)) = none e
+not_own s done none many (inr (inr (inl e))) = many e
+not_own s done none many (inr (inr (inr e))) = e
+
+pub not_cut : (s : Status) → s ≢ Read → s ≢ Write → s ≢ Memory → IsOneOf cut_short s → ⊥
+not_cut s read write memory (inl e) = read e
+not_cut s read write memory (inr (inl e)) = write e
+not_cut s read write memory (inr (inr (inl e))) = memory e
+not_cut s read write memory (inr (inr (inr e))) = e
+
+-- a command means no other status than its own, that of a refusal and that of a read fault
+command_status : (command : Command) (shelf : Change ShelfTold) (report : Report) → CommandMeans command shelf report → IsOneOf (Input ∷ Read ∷ own) report.status
+command_status command shelf report (inl answer) = inr (inr (own_statuses command report.status (status_in command shelf.before.held report answer)))
+command_status command shelf report (inr (inl refusal)) = inl (ap (λ (r : Report). r.status) refusal.texts)
+command_status command shelf report (inr (inr fault)) = inr (inl (ap (λ (r : Report). r.status) fault.texts))
+
+not_of_command : (s : Status) → s ≢ Input → s ≢ Read → (IsOneOf own s → ⊥) → IsOneOf (Input ∷ Read ∷ own) s → ⊥
+not_of_command s input read others (inl e) = input e
+not_of_command s input read others (inr (inl e)) = read e
+not_of_command s input read others (inr (inr is)) = others is
+
+pub not_answered : (command : Command) (shelf : Change ShelfTold) (report : Report) (s : Status) → s ≢ Input → s ≢ Read → (IsOneOf own s → ⊥) → CommandMeans command shelf report → s ≡ report.status → ⊥
+not_answered command shelf report s input read others answers e =
+    not_of_command s input read others (subst (IsOneOf (Input ∷ Read ∷ own)) (sym e) (command_status command shelf report answers))
+
+-- ---- how a call ends
+
+-- the call ends with a report that was meant, or a sink or the memory failed
+abbrev pub EndedAs : Result Command ℕ → Change ShelfTold → Status → Type 0
+EndedAs r shelf status = ((report : Report) × (status ≡ report.status) × MeansFor r shelf report) ⊎ IsOneOf (Write ∷ Memory ∷ []) status
+
+pub ended : (words : List (List ℕ)) (shelf : Change ShelfTold) (out notes : Change SinkTold) (status : Status) → Outcome words shelf out notes status → EndedAs (words_of words) shelf status
+ended words shelf out notes status (inl reports) =
+    elim reports.written [
+      | inl whole ↦ inl (reports.report, whole.0, reports.meant)
+      | inr part ↦ inr (inl part.0)
+    ]
+ended words shelf out notes status (inr nothing) = inr (inr (inl nothing.memory))
+
+-- a command over documents whose bytes are told: its input is refused, or it has its answer, or it is cut short
+abbrev pub Settled : Command → Contents → Status → Type 0
+Settled command held status =
+    ((status ≡ Input) × Refuses command held) ⊎ ((report : Report) × (status ≡ report.status) × IsAnswer command held report) ⊎ IsOneOf cut_short status
+
+settles : (command : Command) (held : Contents) (shelf : Change ShelfTold) (status : Status) (report : Report) → shelf.before.held ≡ Some held → status ≡ report.status → CommandMeans command shelf report → Settled command held status
+settles command held shelf status report told e (inl answer) = inr (inl (report, e, subst (λ (h : Held). IsAnswerIn command h report) told answer))
+settles command held shelf status report told e (inr (inl refusal)) =
+    inl (e ∙ ap (λ (r : Report). r.status) refusal.texts, (refusal.refusal, subst (λ (h : Held). RefusesIn command h refusal.refusal) told refusal.first))
+settles command held shelf status report told e (inr (inr fault)) = inr (inr (inl (e ∙ ap (λ (r : Report). r.status) fault.texts)))
+
+pub settled : (command : Command) (held : Contents) (shelf : Change ShelfTold) (status : Status) → shelf.before.held ≡ Some held → EndedAs (Ok command) shelf status → Settled command held status
+settled command held shelf status told (inl end) = settles command held shelf status end.0 told end.1 end.2
+settled command held shelf status told (inr cut) = inr (inr (inr cut))

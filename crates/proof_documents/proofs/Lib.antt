@@ -1,0 +1,16 @@
+pub mod Applied
+pub mod Ascending
+pub mod Completing
+pub mod DocumentLines
+pub mod Fitting
+pub mod LineCuts
+pub mod LinesRead
+pub mod NumbersText
+pub mod ProofLines
+pub mod Reading
+pub mod RisingLists
+pub mod SpaceLemmas
+pub mod TakenOnce
+pub mod Takings
+pub mod TripleLines
+pub mod Walking

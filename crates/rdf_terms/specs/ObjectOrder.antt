@@ -1,0 +1,23 @@
+-- The second order that a graph keeps: the places of its triples, by their objects. Only private
+-- functions are said by this.
+use Rattle.std.specs.Prelude.{ℕ, ◌+◌, ◌<◌, ◌↔◌, IsTrue, List, length, Contains, nat_le, if◌then◌else◌}
+use Rattle.std.specs.declared.cmp.Ordering.{Ordering}
+use Rattle.std.specs.Ordering.{ordering_then, nat_cmp}
+use Rattle.std.specs.Option.{option_cmp}
+use Rattle.rdf_terms.specs.Set.{is_rising}
+use Rattle.rdf_terms.specs.Term.{term_cmp}
+use Rattle.rdf_terms.specs.Statement.{Statement}
+use Rattle.rdf_terms.specs.Graph.{object_at}
+
+-- by the object of the triple at the place, and then by the place
+abbrev pub place_cmp : List Statement → ℕ → ℕ → Ordering
+place_cmp ts i j = ordering_then (option_cmp term_cmp (object_at ts i) (object_at ts j)) (nat_cmp i j)
+
+-- each place of the list once, in that order
+pub record IsObjectOrder (ts : List Statement) (places : List ℕ) : Type 0 where
+  pub rises : IsTrue (is_rising (place_cmp ts) places)
+  pub all : (i : ℕ) → Contains places i ↔ (i < length ts)
+
+-- where a place comes to stand when a triple is inserted at another place
+abbrev pub moved_place : ℕ → ℕ → ℕ
+moved_place at place = if nat_le at place then place + 1 else place
