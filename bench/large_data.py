@@ -5,8 +5,8 @@ usage: bench/large_data.py [people TRIPLES..] [customers COPIES..]
        (people 20000 200000 customers 1000 10000 where no word is given)
 
 `people` are triples of people in that number; `customers` are the data of a small shop with 40 triples,
-copied so many times under names of their own. Each is written once in sorted and once in shuffled
-order. `explain` reads it: so many triples are more than it tries, so that it ends with status 7 just
+copied so many times under names of their own. Each is written as it is made (one person or one copy
+after another), in sorted and in shuffled order. `explain` reads it: so many triples are more than it tries, so that it ends with status 7 just
 after reading, and what is timed is reading, parsing and sorting. `apply` reads it with a document that
 deletes every third triple and adds as many, and writes the edited graph. Where `rapper` (Debian's
 raptor2-utils) is installed, it reads the same file in the same run and counts its triples; it doesn't
@@ -39,7 +39,7 @@ def lines(count):
             made.append(f'{person} <http://example.org/age> "{i % 97}"^^<http://www.w3.org/2001/XMLSchema#integer> .\n')
         else:
             made.append(f'{person} <http://example.org/knows> <http://example.org/people/{(i * 7919) % count:07d}> .\n')
-    return sorted(made)
+    return made
 
 
 CUSTOMERS = """
@@ -76,13 +76,24 @@ def shop(number):
 
 def customers(copies):
     """The shop, so many times."""
-    return sorted(line for number in range(copies) for line in shop(number))
+    return [line for number in range(copies) for line in shop(number)]
+
+
+def place_of(line):
+    """What triples are ordered by, of a line whose subject and predicate are IRIs."""
+    subject, predicate, rest = line.removesuffix(' .\n').split(' ', 2)
+    if rest.startswith('<'):
+        return subject[1:-1], predicate[1:-1], 0, rest[1:-1]
+    lexical, kind = rest[1:].rsplit('"', 1)
+    datatype, tag = ('http://www.w3.org/1999/02/22-rdf-syntax-ns#langString', kind[1:]) if kind.startswith('@') else (
+        kind[3:-1] or 'http://www.w3.org/2001/XMLSchema#string', '')
+    return subject[1:-1], predicate[1:-1], 1, lexical, datatype, tag
 
 
 def repair(made):
     """A document that deletes every third of the sorted triples, and adds as many, under another name."""
-    deletes = made[::3]
-    adds = [line.replace('<http://example.org/', '<http://example.org/new/', 1) for line in deletes]
+    deletes = sorted(made, key=place_of)[::3]
+    adds = sorted((line.replace('<http://example.org/', '<http://example.org/new/', 1) for line in deletes), key=place_of)
     changes = [f'add {line}' for line in adds] + [f'delete {line}' for line in deletes]
     return ''.join(['explanation 1\n', 'claim pair\n', *changes, 'chain\n', 'end\n'])
 
@@ -135,7 +146,9 @@ def main():
             made = make(count)
             with open(claimed, 'w', encoding='utf-8') as out:
                 out.write(repair(made))
-            for order in ('sorted', 'shuffled'):
+            for order in ('as made', 'sorted', 'shuffled'):
+                if order == 'sorted':
+                    made.sort(key=place_of)
                 if order == 'shuffled':
                     random.Random(1).shuffle(made)
                 with open(data, 'w', encoding='utf-8') as out:

@@ -1,5 +1,6 @@
-//! Tests of the crates that stand below the commands.
+//! Tests of terms, devices and numerals, and terms that tests are made with.
 #![tactic(auto)]
 
+pub mod making;
 #[cfg(test)]
 mod tests;

@@ -1,3 +1,4 @@
+-- How grammars are written, and how what is written so is read.
 pub mod Exact
 pub mod Forms
 pub mod Names

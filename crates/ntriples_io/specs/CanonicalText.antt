@@ -55,7 +55,8 @@ term_text (Literal lexical datatype tag) = quoted lexical ++ kind_text datatype 
 -- a triple's line
 abbrev pub line_text : Statement → List ℕ
 line_text t =
-    ((((term_text t.subject ++ codes " ") ++ term_text t.predicate) ++ codes " ") ++ term_text t.object) ++ codes " ." ++ line_feed ∷ []
+    ((((term_text t.subject ++ codes " ") ++ term_text t.predicate) ++ codes " ") ++ term_text t.object)
+    ++ codes " ." ++ line_feed ∷ []
 
 -- the lines of a graph
 abbrev pub graph_text : Graph → List ℕ

@@ -1,5 +1,6 @@
 -- The lines of some bytes: the bytes are cut at each CR and each LF (N-Triples, section 7, EOL).
 use Rattle.std.specs.Prelude.{◌≡◌, ℕ, ◌+◌, Bool, true, false, cond, not, ◌&&◌, ◌||◌, ◌==◌, List, [], ◌∷◌, ◌++◌}
+use Rattle.std.specs.List.{list_all}
 
 abbrev pub is_break : ℕ → Bool
 is_break b = (b == 10) || (b == 13)
@@ -67,10 +68,24 @@ abbrev pub lone_cr_count : List ℕ → List ℕ → ℕ
 lone_cr_count [] rest = 0
 lone_cr_count (b ∷ bs) rest = cond ((b == 13) && not (begins_with_lf (bs ++ rest))) 1 0 + lone_cr_count bs rest
 
--- The piece stands in the bytes, and this is 1, plus the LF bytes before it, plus the CR bytes before it that no
--- LF follows.
+-- a line may begin behind these bytes: there are none, or the last is a break
+abbrev pub is_before_line : List ℕ → Bool
+is_before_line [] = true
+is_before_line (b ∷ []) = is_break b
+is_before_line (b ∷ c ∷ bs) = is_before_line (c ∷ bs)
+
+-- a line may end before these bytes: there are none, or the first is a break
+abbrev pub is_behind_line : List ℕ → Bool
+is_behind_line [] = true
+is_behind_line (b ∷ bs) = is_break b
+
+-- The piece stands in the bytes between two breaks, or from their front or to their end, and this is 1, plus the
+-- LF bytes before it, plus the CR bytes before it that no LF follows.
 pub record IsNumbered (bytes piece : List ℕ) (number : ℕ) : Type 0 where
   pub front : List ℕ
   pub rest : List ℕ
   pub parts : bytes ≡ front ++ (piece ++ rest)
+  pub begins : is_before_line front ≡ true
+  pub ends : is_behind_line rest ≡ true
+  pub plain : list_all is_plain piece ≡ true
   pub count : number ≡ 1 + lf_count front + lone_cr_count front (piece ++ rest)

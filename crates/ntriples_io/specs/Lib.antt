@@ -1,3 +1,4 @@
+-- N-Triples and its canonical form: what contracts say of the reader and the writer.
 pub mod CanonicalText
 pub mod Cutting
 pub mod Feeding

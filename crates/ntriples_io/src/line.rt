@@ -261,8 +261,8 @@ fn parse_text(
     }
 }
 
-/// What one line means, without its line break: a triple, or nothing where the line is blank or a
-/// comment. `NoMatch` where the bytes are no line. Texts are shared with those that are kept.
+/// What one line means, without its line break: a triple, or nothing where it has no more than spaces
+/// and a comment. `NoMatch` where the bytes are no line. Texts are shared with those that are kept.
 pub fn parse_line(
     alloc: Global,
     texts: &mut RecentTexts,

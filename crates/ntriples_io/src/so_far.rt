@@ -9,7 +9,8 @@ use rdf_terms::{Graph, Scope, Triples};
 use std::alloc::Global;
 
 /// The lines that a reader has read so far: their triples, and the bytes of the line that has not
-/// ended yet.
+/// ended yet. An `NtReader` is one of these, seen as its `Progress`, so that no public contract speaks
+/// of fields.
 #[derive(Drop)]
 pub struct LinesSoFar {
     alloc: Global,
@@ -110,6 +111,7 @@ impl LinesSoFar {
         Ok(())
     }
 
+    /// Takes a piece of the bytes, line by line.
     fn take(&mut self, piece: &[u8]) -> Result<(), NtRefusal>
         requires open { self.old.refusal ≡ None }
         requires few { self.old.taken + length piece.now < 2 ^ 63 }

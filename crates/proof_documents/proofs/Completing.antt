@@ -14,7 +14,7 @@ use Rattle.proof_documents.specs.declared.draft.Stage.TheVariants.{Version, Clai
 use Rattle.proof_documents.specs.Document.{Document, HasTriplesFor, IsSpelled, IsLawfulLine, IsWellFormed}
 use Rattle.proof_documents.specs.DocumentText.{line, version_text, claim_text, add_prefix, delete_prefix, lines_with, proof_line_text, end_text, document_text}
 use Rattle.proof_documents.specs.Stages.{nothing_read, document_of, after_claim, TakesClaim, TakesAdd, TakesDelete, TakesProofLine, at_stage, Takes, Leads}
-use Rattle.proof_documents.specs.Text.{IsDocument, BeginsDocument, joined}
+use Rattle.proof_documents.specs.Text.{IsDocument, BeginsDocument, lines_text}
 use Rattle.proof_documents.proofs.LinesRead.{draft}
 
 abbrev proof_text : List ProofLine → List ℕ
@@ -180,10 +180,10 @@ spells_next Proved claim adds deletes lines t text l h k =
     elim k [ inl read ↦ spells_proof_line s t text l h.formed h.spelled read | inr end ↦ spells_end s t text l h.formed h.spelled end.0 end.1 ]
 spells_next Ended claim adds deletes lines t text l h k = absurd k
 
-pub spells_on : (texts : List (List ℕ)) (s t : Draft) (text : List ℕ) → Spells s text → Leads s texts t → Spells t (text ++ joined texts)
+pub spells_on : (texts : List (List ℕ)) (s t : Draft) (text : List ℕ) → Spells s text → Leads s texts t → Spells t (text ++ lines_text texts)
 spells_on [] s t text h k = subst (Spells t) (sym (append-nil text)) (subst (λ (d : Draft). Spells d text) k h)
 spells_on (l ∷ texts) s t text h k =
-    subst (Spells t) (append_assoc text (line l) (joined texts)) (spells_on texts k.0 t (text ++ line l) (spells_next s.stage s.claim s.adds s.deletes s.lines k.0 text l h k.1) k.2)
+    subst (Spells t) (append_assoc text (line l) (lines_text texts)) (spells_on texts k.0 t (text ++ line l) (spells_next s.stage s.claim s.adds s.deletes s.lines k.0 text l h k.1) k.2)
 
 -- ---- what the lines that were read are of a document
 

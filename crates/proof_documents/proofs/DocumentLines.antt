@@ -1,4 +1,4 @@
--- The lines of a document: joined they are its text, each is plain, and they are read to its end.
+-- The lines of a document: lines_text they are its text, each is plain, and they are read to its end.
 use Rattle.std.proofs.Common.{◌≡◌, ℕ, ◌+◌, ◌%◌, ◌^◌, ◌<◌, Bool, true, false, not, ◌==◌, ◌||◌, List, [], ◌∷◌, ◌++◌, codes, decimal, flat_map, map, refl, ap, ◌∙◌, append_assoc, arith}
 use Rattle.std.specs.List.{All, list_all}
 use Rattle.std.proofs.lemmas.Bool.Decides.{nat_tests}
@@ -23,7 +23,7 @@ use Rattle.proof_lines.specs.declared.rule.RuleName.{RuleName}
 use Rattle.proof_lines.specs.declared.rule.RuleName.TheVariants.{Reach, Level, Middle, Good, Marked, Count, Differ, Twin, Holds, Conforms, Target, Root, Outside, Undo}
 use Rattle.proof_documents.specs.Document.{Document, IsSpelled, AreShort, IsLawfulLine, IsWellFormed}
 use Rattle.proof_documents.specs.DocumentText.{line, version_text, claim_text, add_prefix, delete_prefix, lines_with, rule_text, numbers_text, proof_line_text, end_text, document_text}
-use Rattle.proof_documents.specs.Text.{IsPlain, joined}
+use Rattle.proof_documents.specs.Text.{IsPlain, lines_text}
 
 -- the line of a triple behind a prefix, without its LF
 abbrev pub triple_line : List ℕ → Statement → List ℕ
@@ -35,30 +35,30 @@ lines_of d = version_text ∷ claim_text d.proof.claim ∷ (map (triple_line add
 
 -- ---- their text
 
-joined-triples : (prefix : List ℕ) (ts : List Statement) → joined (map (triple_line prefix) ts) ≡ lines_with prefix ts
-joined-triples prefix [] = refl
-joined-triples prefix (t ∷ ts) =
-    ap (λ (text : List ℕ). text ++ joined (map (triple_line prefix) ts)) (append_assoc prefix (body_text t) (10 ∷ [])) ∙ ap (λ (text : List ℕ). (prefix ++ line_text t) ++ text) (joined-triples prefix ts)
+lines_text-triples : (prefix : List ℕ) (ts : List Statement) → lines_text (map (triple_line prefix) ts) ≡ lines_with prefix ts
+lines_text-triples prefix [] = refl
+lines_text-triples prefix (t ∷ ts) =
+    ap (λ (text : List ℕ). text ++ lines_text (map (triple_line prefix) ts)) (append_assoc prefix (body_text t) (10 ∷ [])) ∙ ap (λ (text : List ℕ). (prefix ++ line_text t) ++ text) (lines_text-triples prefix ts)
 
-joined-proof : (ls : List ProofLine) → joined (map proof_line_text ls) ≡ flat_map (λ l. line (proof_line_text l)) ls
-joined-proof [] = refl
-joined-proof (l ∷ ls) = ap (λ (text : List ℕ). line (proof_line_text l) ++ text) (joined-proof ls)
+lines_text-proof : (ls : List ProofLine) → lines_text (map proof_line_text ls) ≡ flat_map (λ l. line (proof_line_text l)) ls
+lines_text-proof [] = refl
+lines_text-proof (l ∷ ls) = ap (λ (text : List ℕ). line (proof_line_text l) ++ text) (lines_text-proof ls)
 
 regroup : (version claim adds deletes proof end a b p : List ℕ) → a ≡ adds → b ≡ deletes → p ≡ proof
     → version ++ (claim ++ (a ++ (b ++ (p ++ (end ++ []))))) ≡ ((((version ++ claim) ++ adds) ++ deletes) ++ proof) ++ end
 regroup version claim adds deletes proof end a b p h k l = rw (h, k, l) (simp (append_assoc, append-nil))
 
-joined_four : (a b p : List (List ℕ)) (end : List ℕ) → joined (a ++ (b ++ (p ++ end ∷ []))) ≡ joined a ++ (joined b ++ (joined p ++ (line end ++ [])))
+joined_four : (a b p : List (List ℕ)) (end : List ℕ) → lines_text (a ++ (b ++ (p ++ end ∷ []))) ≡ lines_text a ++ (lines_text b ++ (lines_text p ++ (line end ++ [])))
 joined_four a b p end =
-    flat_map-append line a (b ++ (p ++ end ∷ [])) ∙ ap (λ (t : List ℕ). joined a ++ t) (flat_map-append line b (p ++ end ∷ []) ∙ ap (λ (t : List ℕ). joined b ++ t) (flat_map-append line p (end ∷ [])))
+    flat_map-append line a (b ++ (p ++ end ∷ [])) ∙ ap (λ (t : List ℕ). lines_text a ++ t) (flat_map-append line b (p ++ end ∷ []) ∙ ap (λ (t : List ℕ). lines_text b ++ t) (flat_map-append line p (end ∷ [])))
 
-pub joined-lines_of : (d : Document) → joined (lines_of d) ≡ document_text d
-joined-lines_of d =
+pub lines_text-lines_of : (d : Document) → lines_text (lines_of d) ≡ document_text d
+lines_text-lines_of d =
     let claim = line (claim_text d.proof.claim) in
     let parts = joined_four (map (triple_line add_prefix) d.adds) (map (triple_line delete_prefix) d.deletes) (map proof_line_text d.proof.lines) end_text in
     ap (λ (t : List ℕ). line version_text ++ (claim ++ t)) parts
     ∙ regroup (line version_text) claim (lines_with add_prefix d.adds) (lines_with delete_prefix d.deletes) (flat_map (λ l. line (proof_line_text l)) d.proof.lines) (line end_text) _ _ _
-    (joined-triples add_prefix d.adds) (joined-triples delete_prefix d.deletes) (joined-proof d.proof.lines)
+    (lines_text-triples add_prefix d.adds) (lines_text-triples delete_prefix d.deletes) (lines_text-proof d.proof.lines)
 
 -- ---- they are plain
 

@@ -1,3 +1,4 @@
+-- Documents of claims: their text, and what they do to data.
 pub mod Applying
 pub mod Document
 pub mod DocumentText

@@ -1,5 +1,5 @@
--- How a document is read line by line: which lines may come next, and what each adds to what was read. Private
--- functions alone cite this module.
+-- How a document is read line by line. Private functions alone cite this module. It says which lines may come
+-- next, and what each adds to what was read.
 use Rattle.std.specs.Prelude.{◌≡◌, ℕ, ◌⊎◌, IsTrue, List, [], ◌∷◌, ◌++◌}
 use Rattle.rdf_terms.specs.Statement.{Statement}
 use Rattle.rdf_terms.specs.Graph.{is_rising}
@@ -44,7 +44,8 @@ pub record TakesDelete (s : Draft) (text : List ℕ) (t : Draft) : Type 0 where
   pub spelled : IsTripleLine delete_prefix text triple
   pub rises : IsTrue (is_rising (s.deletes ++ triple ∷ []))
   pub is :
-      t ≡ record { stage = Deletes; claim = s.claim; adds = s.adds; deletes = s.deletes ++ triple ∷ []; lines = s.lines }
+      t ≡
+      record { stage = Deletes; claim = s.claim; adds = s.adds; deletes = s.deletes ++ triple ∷ []; lines = s.lines }
 
 pub record TakesProofLine (s : Draft) (text : List ℕ) (t : Draft) : Type 0 where
   pub read : ProofLine

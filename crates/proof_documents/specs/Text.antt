@@ -1,6 +1,7 @@
 -- Which bytes are a document, and which line is the first that can't stand where it stands.
-use Rattle.std.specs.Prelude.{◌≡◌, ℕ, ◌+◌, ◌⊎◌, not, ◌==◌, IsTrue, List, ◌++◌, length, flat_map, Result, Ok, Err}
+use Rattle.std.specs.Prelude.{◌≡◌, ℕ, ◌+◌, ◌⊎◌, Bool, true, false, not, ◌==◌, IsTrue, List, ◌++◌, length, flat_map, Result, Ok, Err}
 use Rattle.std.specs.List.{All, list_all}
+use Rattle.rdf_terms.specs.Answers.{IsMeant, IsOnlyMeant}
 use Rattle.proof_documents.specs.declared.refusal.DocRefusal.{DocRefusal}
 use Rattle.proof_documents.specs.declared.refusal.DocRefusal.TheVariants.{Line, OutOfMemory}
 use Rattle.proof_documents.specs.Document.{Document, IsWellFormed}
@@ -22,8 +23,8 @@ abbrev pub IsPlain : List ℕ → Type 0
 IsPlain text = IsTrue (list_all (λ b. not (b == 10)) text)
 
 -- the lines, each with its LF
-abbrev pub joined : List (List ℕ) → List ℕ
-joined lines = flat_map line lines
+abbrev pub lines_text : List (List ℕ) → List ℕ
+lines_text lines = flat_map line lines
 
 -- with one more line, no document begins so
 pub record HasBadLine (before after : List ℕ) : Type 0 where
@@ -43,11 +44,11 @@ pub record EndsTooEarly (before after : List ℕ) : Type 0 where
 pub record IsFirstBad (bytes : List ℕ) (number : ℕ) : Type 0 where
   pub before : List (List ℕ)
   pub after : List ℕ
-  pub parts : bytes ≡ joined before ++ after
+  pub parts : bytes ≡ lines_text before ++ after
   pub plain : All IsPlain before
-  pub begins : BeginsDocument (joined before)
+  pub begins : BeginsDocument (lines_text before)
   pub count : number ≡ length before + 1
-  pub fails : HasBadLine (joined before) after ⊎ EndsTooEarly (joined before) after
+  pub fails : HasBadLine (lines_text before) after ⊎ EndsTooEarly (lines_text before) after
 
 -- what the reading of a text answers: its document, or its first line that can't stand there
 abbrev pub TextMeans : List ℕ → Result Document DocRefusal → Type 0
@@ -55,15 +56,13 @@ TextMeans bytes (Ok d) = IsDocument bytes d
 TextMeans bytes (Err (Line number)) = IsFirstBad bytes number
 TextMeans bytes (Err OutOfMemory) = ⊥
 
--- want of memory says nothing
-abbrev pub UnlessMemory : Result Document DocRefusal → Type 0 → Type 0
-UnlessMemory (Ok d) P = P
-UnlessMemory (Err (Line number)) P = P
-UnlessMemory (Err OutOfMemory) P = Unit {0}
+abbrev pub is_memory : DocRefusal → Bool
+is_memory (Line number) = false
+is_memory OutOfMemory = true
 
 abbrev pub IsAnswer : List ℕ → Result Document DocRefusal → Type 0
-IsAnswer bytes result = UnlessMemory result (TextMeans bytes result)
+IsAnswer bytes result = IsMeant is_memory (TextMeans bytes) result
 
 -- the text is no other document and has no other first bad line
 abbrev pub IsOnlyAnswer : List ℕ → Result Document DocRefusal → Type 0
-IsOnlyAnswer bytes result = (other : Result Document DocRefusal) → TextMeans bytes other → UnlessMemory result (result ≡ other)
+IsOnlyAnswer bytes result = IsOnlyMeant is_memory (TextMeans bytes) result

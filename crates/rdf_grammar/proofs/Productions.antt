@@ -5,9 +5,9 @@ use Rattle.std.specs.List.{find}
 use Rattle.std.specs.Char.{digit_value, is_ascii_alphabetic, is_ascii_alphanumeric}
 use Rattle.std.specs.Borrow.{Bor}
 use Rattle.std.specs.Str.{chars, str_to_ascii_lowercase}
-use Rattle.grammar_forms.specs.Forms.{One, many, some, either, Such, first_of, silent, written}
+use Rattle.grammar_forms.specs.Forms.{One, many, some, either, Such, silent, written}
 use Rattle.grammar_forms.specs.Names.{name_end, NoName}
-use Rattle.grammar_forms.specs.Reading.{Read, one_at, then_at, made_at, many_next, many_at, terminal_at, before, skip_at, skip_some_at}
+use Rattle.grammar_forms.specs.Reading.{Read, one_at, many_next, many_at, terminal_at, before, skip_at, skip_some_at}
 use Rattle.grammar_forms.specs.Exact.{Exact, anything, IsNonempty}
 use Rattle.grammar_forms.proofs.Exactness.{Starts, where_exact, starts_nonempty, Ends, narrow, one_exact, one_nonempty, then_exact, made_exact, such_exact, verbatim_exact, many_exact, many_exact_by, some_exact, either_exact, over_exact, behind_exact, before_exact, silent_exact, written_exact}
 use Rattle.grammar_forms.proofs.Loops.{Consumes, consumes}

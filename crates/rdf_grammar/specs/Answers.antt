@@ -1,10 +1,15 @@
 -- What a function of the code answers, over a reading function of the characters of a text.
-use Rattle.std.specs.Prelude.{◌≡◌, ℕ, Bool, encode_utf8_all, List, ◌++◌, Option, Some, None, Result, Ok, Err}
+use Rattle.std.specs.Prelude.{◌≡◌, ℕ, Bool, true, encode_utf8_all, List, ◌++◌, Option, Some, None, Result, Ok, Err}
+use Rattle.std.specs.List.{list_all}
 use Rattle.std.specs.Str.{chars}
 use Rattle.std.specs.Borrow.{Bor}
 use Rattle.grammar_forms.specs.Reading.{Read, Skips}
 use Rattle.rdf_grammar.specs.declared.parse_error.ParseError.{ParseError}
 use Rattle.rdf_grammar.specs.declared.parse_error.ParseError.TheVariants.{OutOfMemory, NoMatch}
+
+-- characters of a class stand before the rest
+abbrev pub StandBefore : (ℕ → Bool) → List ℕ → List ℕ → Type 0
+StandBefore p cs rest = (run : List ℕ) × (cs ≡ run ++ rest) × (list_all p run ≡ true)
 
 -- the characters end with this rest
 abbrev pub IsRest : List ℕ → List ℕ → Type 0

@@ -1,5 +1,5 @@
 -- Terms that a document can have: RDF 1.1 Concepts, section 3.
-use Rattle.std.specs.Prelude.{◌≡◌, ℕ, true, List, Option, ◌↔◌, IfSome, IsSome, encode_utf8_all, codes}
+use Rattle.std.specs.Prelude.{◌≡◌, ℕ, true, List, Option, ◌↔◌, IfSome, IsSome, encode_utf8_all}
 use Rattle.std.specs.List.{list_all}
 use Rattle.std.specs.Str.{IsUtf8, str_to_ascii_lowercase}
 use Rattle.rdf_terms.specs.declared.term.Term.{Term}

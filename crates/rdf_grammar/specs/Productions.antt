@@ -1,5 +1,6 @@
 -- What N-Triples and Turtle share, over code points. The names and numbers of the productions are those of
--- RDF 1.1 N-Triples, section 7; RDF 1.1 Turtle, section 6.5, has the same.
+-- RDF 1.1 N-Triples, section 7. RDF 1.1 Turtle, section 6.5, has the same under other numbers, but for the ':' of
+-- PN_CHARS_U.
 use Rattle.std.specs.Prelude.{◌≡◌, ℕ, ◌+◌, ◌*◌, ◌==◌, Bool, true, false, cond, not, ◌&&◌, ◌||◌, List, [], ◌∷◌, ◌++◌, codes}
 use Rattle.std.specs.Int.{is_in_range}
 use Rattle.std.specs.Char.{digit_value, is_digit, is_ascii_digit, is_ascii_alphabetic, is_ascii_alphanumeric}
@@ -61,7 +62,8 @@ echar = Made escape_of (terminal (92 ∷ []) ▹ One is_escape)
 unfoldable pub is_iri_char : ℕ → Bool
 is_iri_char c =
     is_scalar c
-    && not (is_in_range 0 0x20 c || (c == 60) || (c == 62) || (c == 34) || (c == 123) || (c == 125) || (c == 124) || (c == 94) || (c == 96) || (c == 92))
+    && not (is_in_range 0 0x20 c || (c == 60) || (c == 62) || (c == 34) || (c == 123) || (c == 125) || (c == 124)
+    || (c == 94) || (c == 96) || (c == 92))
 
 -- [8] IRIREF ::= '<' ([^#x00-#x20<>"{}|^`\] | UCHAR)* '>', where the UCHAR names an IRICHAR
 abbrev pub iri_part : Form ℕ ℕ
@@ -123,7 +125,8 @@ is_name_start d c = is_base c || (c == 95) || has_colon d && (c == 58)
 -- [160s] PN_CHARS ::= PN_CHARS_U | '-' | [0-9] | #x00B7 | [#x0300-#x036F] | [#x203F-#x2040]
 unfoldable pub is_name_char : Dialect → ℕ → Bool
 is_name_char d c =
-    is_name_start d c || (c == 45) || is_ascii_digit c || (c == 0xB7) || is_in_range 0x300 0x36F c || is_in_range 0x203F 0x2040 c
+    is_name_start d c || (c == 45) || is_ascii_digit c || (c == 0xB7) || is_in_range 0x300 0x36F c
+    || is_in_range 0x203F 0x2040 c
 
 -- [141s] BLANK_NODE_LABEL ::= '_:' (PN_CHARS_U | [0-9]) ((PN_CHARS | '.')* PN_CHARS)?, without the '_:'
 unfoldable pub is_label_start : Dialect → ℕ → Bool

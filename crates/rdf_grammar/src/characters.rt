@@ -1,7 +1,7 @@
 ghost use Rattle.std.specs.Prelude.{◌≡◌, ◌-◌, ℕ, Bool, [], ◌∷◌, Some, length, take, encode_utf8_all};
 ghost use Rattle.std.specs.Str.{chars};
 ghost use Rattle.grammar_forms.specs.Reading.{char_at, one_at, terminal_at, skip_at, skip_some_at, Skips};
-ghost use Rattle.rdf_grammar.specs.Answers.{Gives, GivesRest, IsRest};
+ghost use Rattle.rdf_grammar.specs.Answers.{Gives, GivesRest, IsRest, StandBefore};
 
 /// A class of characters, as a production has it between brackets.
 pub trait CharClass {
@@ -41,12 +41,24 @@ pub fn char_of<'a, C: CharClass>(class: &C, text: &'a str) -> Option<(char, &'a 
     }
 }
 
+/// The rest behind ASCII characters of the class at the front, each of which is one byte.
+fn skip_ascii<'a, C: CharClass>(class: &C, text: &'a str) -> &'a str
+    ensures { StandBefore (C.test class.now) (chars text.now) (chars result.now) }
+{
+    let bytes = text.as_bytes();
+    let mut end = 0;
+    'ascii: while end < bytes.len() && bytes[end] < 128 && class.contains(char::from(bytes[end])) {
+        end += 1;
+    }
+    &text[end..]
+}
+
 /// The rest behind all characters of the class at the front.
 pub fn skip<'a, C: CharClass>(class: &C, text: &'a str) -> &'a str
     ensures skips { skip_at (C.test class.now) (chars text.now) ≡ Some (tt, chars result.now) }
     ensures run { Skips (C.test class.now) (chars text.now) (chars result.now) }
 {
-    let mut rest = text;
+    let mut rest = skip_ascii(class, text);
     'class: while let Some((_c, after)) = char_of(class, rest) {
         rest = after;
     }

@@ -1,5 +1,6 @@
 //! What the grammars of N-Triples and Turtle share: characters, escapes, IRIs, strings, blank node
-//! labels and language tags, each with its reader.
+//! labels and language tags, each with its reader. The productions, in capital letters, are those of
+//! RDF 1.1 N-Triples, section 7, and RDF 1.1 Turtle, section 6.5.
 //!
 //! A reader takes a text and answers what stands at its front and the rest. `specs/Productions.antt`
 //! has the productions as forms, `specs/Lawful.antt` the terms that a document can have.

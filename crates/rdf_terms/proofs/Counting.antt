@@ -1,11 +1,9 @@
 -- The set of the terms with a property, and their number.
-use Rattle.std.proofs.Common.{◌≡◌, ◌↔◌, ℕ, IsTrue, true, List, length, Contains, sym, ap, ◌∙◌, subst}
-use Rattle.std.proofs.lemmas.Cmp.{eq_by_cmp_equiv}
-use Rattle.std.proofs.lemmas.Map.Views.{list_any-from_Contains, Contains-from_any}
+use Rattle.std.proofs.Common.{◌≡◌, ◌↔◌, ℕ, true, List, length, Contains, sym, ap, ◌∙◌, subst}
 use Rattle.rdf_terms.specs.declared.term.Term.{Term}
 use Rattle.rdf_terms.specs.Term.{term_cmp}
 use Rattle.rdf_terms.specs.TermOrder.{term_cmp_total, term_cmp-IsAntisymmetric}
-use Rattle.rdf_terms.specs.Nodes.{Nodes, terms, has_term, nodes_of_rising, nodes_of_list, is_rising}
+use Rattle.rdf_terms.specs.Nodes.{Nodes, terms, nodes_of_rising, nodes_of_list, is_rising}
 use Rattle.rdf_terms.specs.Members.{IsListOf, IsSetOf, IsCount}
 use Rattle.rdf_terms.proofs.Membership as sets
 use Rattle.rdf_terms.proofs.Sets.{items-of_rising}

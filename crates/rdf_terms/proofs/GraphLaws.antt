@@ -1,5 +1,8 @@
 -- What is in a graph that was made from others, and that a graph is the set of its triples.
-use Rattle.std.proofs.Common.{◌≡◌, ℕ, ◌+◌, ◌<◌, Some, slice_get, true, false, not, ◌&&◌, ◌||◌, IsTrue, List, [], ◌∷◌, length, Contains, ◌↔◌, refl, sym, ap, ◌∙◌}
+use Rattle.std.proofs.Common.{◌≡◌, ℕ, ◌+◌, ◌<◌, Some, slice_get, true, false, not, ◌&&◌, ◌||◌, IsTrue, List, [], ◌∷◌, length, Contains, ◌↔◌, refl, sym, ap, ◌∙◌, subst}
+use Rattle.std.specs.List.Sorted.{IsPermutation}
+use Rattle.std.proofs.lemmas.List.Sorted.{Contains-permutation, IsPermutation-sym}
+use Rattle.rdf_terms.proofs.Sets.{items-of_rising}
 use Rattle.std.specs.declared.cmp.Ordering.TheVariants.{Less}
 use Rattle.std.specs.Ordering.{eq_by_cmp}
 use Rattle.std.specs.List.{list_any}
@@ -107,3 +110,16 @@ with_present g t h = sets.with_present statement_cmp_total statement_cmp-IsAntis
 -- a triple that is new makes the graph longer by one
 pub length-with : (g : Graph) (t : Statement) → has g t ≡ false → length (triples (with g t)) ≡ length (triples g) + 1
 length-with g t h = sets.length-with statement_cmp_total g t h
+
+-- a list that rises, whatever order its triples had before
+pub graph_of-permuted : (ts us : List Statement) → IsPermutation ts us → is_rising us ≡ true → graph_of us ≡ of_list ts
+graph_of-permuted ts us moved rises = same_within (graph_of us) (of_list ts) there back
+  where
+    listed : triples (graph_of us) ≡ us
+    listed = items-of_rising statement_cmp us rises
+
+    there : (t : Statement) → IsTrue (has (graph_of us) t) → IsTrue (has (of_list ts) t)
+    there t h = has_of_list_item ts t (Contains-permutation us ts t (IsPermutation-sym ts us moved) (subst (λ vs. Contains vs t) listed (listed_of_has (graph_of us) t h)))
+
+    back : (t : Statement) → IsTrue (has (of_list ts) t) → IsTrue (has (graph_of us) t)
+    back t h = has_listed (graph_of us) t (subst (λ vs. Contains vs t) (sym listed) (Contains-permutation ts us t moved (item_of_has_list ts t h)))

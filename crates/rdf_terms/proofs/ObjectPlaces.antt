@@ -1,5 +1,6 @@
 -- The places of triples in the order of their objects: how the order is made, searched and kept.
 use Rattle.std.proofs.Common.{◌≡◌, ℕ, zero, suc, ◌+◌, ◌-◌, ◌<◌, ◌≤◌, ◌⊎◌, inl, inr, Bool, true, false, List, [], ◌∷◌, map, length, get_or, slice_get, Option, Some, None, Contains, refl, sym, ap, ◌∙◌, subst, arith}
+use Rattle.std.proofs.Math.Path.{fun_ext}
 use Rattle.std.specs.declared.cmp.Ordering.{Ordering}
 use Rattle.std.specs.declared.cmp.Ordering.TheVariants.{Less, Equal, Greater}
 use Rattle.std.specs.Ordering.{is_lt, is_eq, ordering_then, ordering_index, nat_cmp, eq_by_cmp, MatchOrdering}
@@ -18,11 +19,12 @@ use Rattle.std.proofs.lemmas.List.Sorted.{searchable_from_sorted, Contains-permu
 use Rattle.std.proofs.lemmas.Map.Keys.{IsDistinct-from_apart, IsDistinct-IsPermutation}
 use Rattle.std.proofs.lemmas.Option.{slice_get_past}
 use Rattle.rdf_terms.specs.Term.{term_cmp}
+use Rattle.rdf_terms.specs.TermHash.{term_hash, hashed_cmp}
 use Rattle.rdf_terms.specs.declared.term.Term.{Term}
 use Rattle.rdf_terms.specs.Statement.{Statement}
 use Rattle.rdf_terms.specs.Set.{is_rising}
 use Rattle.rdf_terms.specs.Graph.{object_at, ArePlacesOfObject}
-use Rattle.rdf_terms.specs.ObjectOrder.{place_cmp, IsObjectOrder, moved_place}
+use Rattle.rdf_terms.specs.ObjectOrder.{place_cmp, sought_cmp, IsObjectOrder, moved_place}
 use Rattle.rdf_terms.specs.TermOrder.{term_cmp_total, term_cmp-IsAntisymmetric}
 use Rattle.rdf_terms.proofs.Orders.{lt_or_le, less_of, equal_of, first_not_below, both_ties}
 use Rattle.rdf_terms.proofs.Parts.{below_parts}
@@ -42,17 +44,24 @@ nat_less x y lt = by (nat_cmp x y) (ranked x y (nat_cmp x y) refl)
     by Greater r = absurd (omega arith)
 
 -- objects
+hashed_total : IsTotalOrder hashed_cmp
+hashed_total = then_total (on_total term_hash nat_cmp_total) term_cmp_total
+
+-- terms that tie have one hash
+pub hashed_tie : (x y : Term) → term_cmp x y ≡ Equal → hashed_cmp x y ≡ Equal
+hashed_tie x y e = ap (hashed_cmp x) (sym (term_cmp-IsAntisymmetric x y e)) ∙ tied_itself hashed_total x
+
 abbrev object_cmp : Option Term → Option Term → Ordering
-object_cmp = option_cmp term_cmp
+object_cmp = option_cmp hashed_cmp
 
 objects_total : IsTotalOrder object_cmp
-objects_total = options_total term_cmp_total
+objects_total = options_total hashed_total
 
 object_same : (a b : Option Term) → object_cmp a b ≡ Equal → a ≡ b
 object_same None None e = refl
 object_same None (Some y) e = cc
 object_same (Some x) None e = cc
-object_same (Some x) (Some y) e = ap Some (term_cmp-IsAntisymmetric x y e)
+object_same (Some x) (Some y) e = ap Some (term_cmp-IsAntisymmetric x y ((both_ties _ _ e).1))
 
 object_tied : (a : Option Term) → object_cmp a a ≡ Equal
 object_tied a = tied_itself objects_total a
@@ -65,16 +74,16 @@ module _ (ts : List Statement) where
   place_cmp-IsAntisymmetric i j e = nat_cmp-IsAntisymmetric i j ((both_ties _ _ e).1)
 
   -- how the object at a place is ordered against an object
-  abbrev pub key_at : Term → ℕ → Ordering
+  abbrev key_at : Term → ℕ → Ordering
   key_at o i = object_cmp (object_at ts i) (Some o)
 
   -- places in that order have their objects in order
-  pub keys_at_rise : (places : List ℕ) (o : Term) → is_rising (place_cmp ts) places ≡ true → IsNonDecreasingBy (λ i. ordering_index (key_at o i)) places
+  keys_at_rise : (places : List ℕ) (o : Term) → is_rising (place_cmp ts) places ≡ true → IsNonDecreasingBy (λ i. ordering_index (key_at o i)) places
   keys_at_rise places o h =
       searchable_from_sorted objects_total (object_at ts) places (Some o) (λ k d low high. first_not_below _ _ (rising_sorted place_cmp_total places h k d low high))
 
   -- the places that tie with an object are its places
-  pub tied_places : (places : List ℕ) (o : Term) → IsObjectOrder ts places → ArePlacesOfObject ts o (filter (λ i. is_eq (key_at o i)) places)
+  tied_places : (places : List ℕ) (o : Term) → IsObjectOrder ts places → ArePlacesOfObject ts o (filter (λ i. is_eq (key_at o i)) places)
   tied_places places o order = record { rises = rises; exact = λ i. (there i, back i) }
     where
       at : ℕ → Bool
@@ -101,6 +110,23 @@ module _ (ts : List Statement) where
           let f = same_object b (filter_passes at places (k + 1) 0 lt) in
           let less = rising_pairs place_cmp_total (filter at places) (rising-filter (place_cmp ts) at places order.rises) k (k + 1) 0 (omega arith) lt in
           less_nat a b (sym (ap (λ r. ordering_then r (nat_cmp a b)) ((λ i. object_cmp (e i) (f i)) ∙ object_tied (Some o))) ∙ less)
+
+  -- the same of an object that is sought by its hash
+  abbrev pub sought_at : ℕ → Term → ℕ → Ordering
+  sought_at hash o i = sought_cmp hash o (object_at ts i)
+
+  sought_at_is : (o : Term) (hash : ℕ) → hash ≡ term_hash o → sought_at hash o ≡ key_at o
+  sought_at_is o hash e = fun_ext (λ i. ap (λ n. sought_cmp n o (object_at ts i)) e ∙ by (object_at ts i))
+    where
+      by : (a : Option Term) → sought_cmp (term_hash o) o a ≡ object_cmp a (Some o)
+      by None = refl
+      by (Some x) = refl
+
+  pub sought_at_rise : (places : List ℕ) (o : Term) (hash : ℕ) → hash ≡ term_hash o → is_rising (place_cmp ts) places ≡ true → IsNonDecreasingBy (λ i. ordering_index (sought_at hash o i)) places
+  sought_at_rise places o hash e h = subst (λ k. IsNonDecreasingBy (λ i. ordering_index (k i)) places) (sym (sought_at_is o hash e)) (keys_at_rise places o h)
+
+  pub sought_places : (places : List ℕ) (o : Term) (hash : ℕ) → hash ≡ term_hash o → IsObjectOrder ts places → ArePlacesOfObject ts o (filter (λ i. is_eq (sought_at hash o i)) places)
+  sought_places places o hash e order = subst (λ k. ArePlacesOfObject ts o (filter (λ i. is_eq (k i)) places)) (sym (sought_at_is o hash e)) (tied_places places o order)
 
   -- all places, sorted
   pub sorted_places : (places sorted : List ℕ) → length places ≡ length ts → ((k : ℕ) → k < length ts → get_or places k 0 ≡ k) → IsPermutation places sorted → IsSortedBy (λ i j. is_lt (place_cmp ts i j)) sorted → IsObjectOrder ts sorted

@@ -1,6 +1,6 @@
 -- The objects of the triples with a subject and a predicate, which are its values: whether there is
 -- one or none, and how many there are.
-use Rattle.std.proofs.Common.{◌≡◌, ℕ, zero, suc, ◌≤◌, true, List, [], ◌∷◌, map, length, slice_index_or, Contains, refl, sym, ap, ◌∙◌, subst, arith}
+use Rattle.std.proofs.Common.{◌≡◌, ℕ, zero, suc, ◌≤◌, List, [], ◌∷◌, map, length, slice_index_or, Contains, refl, sym, ap, ◌∙◌, subst, arith}
 use Rattle.rdf_terms.specs.declared.term.Term.{Term}
 use Rattle.rdf_terms.specs.Statement.{Statement}
 use Rattle.rdf_terms.specs.Graph.{Graph, triples_of}

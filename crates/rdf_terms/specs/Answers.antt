@@ -13,4 +13,5 @@ IsMeant is_memory Means result = UnlessMemory is_memory result (Means result)
 
 -- unless memory could not be had, no other answer is meant
 abbrev pub IsOnlyMeant : {T E : Type 0} → (E → Bool) → (Result T E → Type 0) → Result T E → Type 0
-IsOnlyMeant {T} {E} is_memory Means result = (other : Result T E) → Means other → UnlessMemory is_memory result (result ≡ other)
+IsOnlyMeant {T} {E} is_memory Means result =
+    (other : Result T E) → Means other → UnlessMemory is_memory result (result ≡ other)

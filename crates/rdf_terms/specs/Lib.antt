@@ -1,3 +1,4 @@
+-- Terms, triples and graphs: what contracts say of them.
 pub mod Answers
 pub mod Graph
 pub mod Members
@@ -6,5 +7,6 @@ pub mod ObjectOrder
 pub mod Set
 pub mod Statement
 pub mod Term
+pub mod TermHash
 pub mod TermOrder
 pub mod Vocab

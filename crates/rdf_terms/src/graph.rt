@@ -2,15 +2,17 @@ ghost use Rattle.std.specs.Prelude.{◌≡◌, ◌-◌, ◌^◌, ◌<◌, ◌≤
 ghost use Rattle.std.specs.Prelude.{IsTrue, OnOk, OnErr, IfOk, IfErr, IfSome, IfNone, All, Contains, slice_get, not};
 ghost use Rattle.std.specs.Prelude.{true, false};
 ghost use Rattle.std.specs.Ordering.{ordering_then};
-ghost use Rattle.std.specs.Option.{option_cmp, option_copied};
+ghost use Rattle.std.specs.Option.{option_copied};
 ghost use Rattle.rdf_terms.specs.Term.{term_cmp};
 ghost use Rattle.rdf_terms.specs.Statement.{Statement};
 ghost use Rattle.rdf_terms.specs.Graph.{Graph as Triples, triples, has, with, empty, of_list, graph_of, is_rising};
 ghost use Rattle.rdf_terms.specs.Graph.{without as difference, edited as edited_graph, IsPlace, ArePlacesOf};
 ghost use Rattle.rdf_terms.specs.Graph.{triples_of as triples_of_graph};
 ghost use Rattle.rdf_terms.specs.Graph.{object_at as object_at_place, ArePlacesOfObject};
-ghost use Rattle.rdf_terms.specs.ObjectOrder.{place_cmp, IsObjectOrder, moved_place};
+ghost use Rattle.rdf_terms.specs.ObjectOrder.{place_cmp, sought_cmp, IsObjectOrder, moved_place};
 
+use crate::presort::presort;
+use crate::term_hash::{compare_hashed, hash_term};
 use crate::{OutOfMemory, Term, Triple, Triples};
 use std::alloc::Global;
 use std::cmp::Ordering;
@@ -20,8 +22,8 @@ use std::marker::Model;
 /// order is the project's own, and RDF gives none. Contracts see the set, so two graphs are equal
 /// exactly where they have the same triples.
 ///
-/// Beside the triples it keeps their places in the order of their objects, so that triples are
-/// found by their object as fast as by their subject.
+/// Beside the triples it keeps their places, ordered by their objects, a hash of these first, so that
+/// triples are found by their object as fast as by their subject.
 #[derive(Drop)]
 pub struct Graph {
     items: Vec<Triple>,
@@ -68,9 +70,7 @@ impl Graph {
         ensures value { IfOk result (λ g. g ≡ of_list triples) }
         ensures exact { IfOk result (λ g. (t : Statement) → IsTrue (has g t) ↔ Contains triples t) }
     {
-        let mut items = triples.into_vec();
-        items.sort_unstable();
-        items.dedup();
+        let items = put_in_order(alloc, triples.into_vec())?;
         Graph::from_rising(alloc, items)
     }
 
@@ -123,10 +123,10 @@ impl Graph {
         }
     }
 
-    /// Whether the graph has the triple, and so lists it.
+    /// Whether the graph has the triple. What it has is exactly what it lists.
     pub fn contains(&self, triple: &Triple) -> bool
         ensures value { result ≡ has self.now triple.now }
-        ensures listed { IsTrue result ↔ Contains (triples self.now) triple.now }
+        ensures listed { (t : Statement) → IsTrue (has self.now t) ↔ Contains (triples self.now) t }
     {
         match self.place(triple) {
             Ok(_) => true,
@@ -165,8 +165,13 @@ impl Graph {
     {
         let triples = self.items.as_slice();
         let places = self.by_object.as_slice();
-        let first = places.partition_point(|place| compare_object(triples, *place, object).is_lt());
-        let after = places.partition_point(|place| compare_object(triples, *place, object).is_le());
+        let hash = hash_term(object);
+        let first = places.partition_point(|place| compare_object(
+            triples, *place, hash, object,
+        ).is_lt());
+        let after = places.partition_point(|place| compare_object(
+            triples, *place, hash, object,
+        ).is_le());
         &places[first..after]
     }
 
@@ -256,6 +261,36 @@ impl Eq for Graph {
     ghost laws = { on_equiv triples (lists_equiv (eq_by_cmp_equiv statement_cmp_total)) };
 }
 
+/// The triples of a list in order, each once.
+fn put_in_order(alloc: Global, triples: Vec<Triple>) -> Result<Vec<Triple>, OutOfMemory>
+    ensures rises { IfOk result (λ ts. IsTrue (is_rising ts.items)) }
+    ensures value { IfOk result (λ ts. graph_of ts.items ≡ of_list triples.items) }
+{
+    let mut items = triples;
+    if do_rise(items.as_slice()) {
+        return Ok(items);
+    }
+    presort(alloc, items.as_mut_slice())?;
+    if do_rise(items.as_slice()) {
+        return Ok(items);
+    }
+    items.sort_unstable();
+    items.dedup();
+    Ok(items)
+}
+
+/// Whether each triple is below the next.
+fn do_rise(triples: &[Triple]) -> bool
+    ensures { IsTrue result → IsTrue (is_rising triples.now) }
+{
+    'neighbours: for i in 1..triples.len() {
+        if !triples[i - 1].compare(&triples[i]).is_lt() {
+            return false;
+        }
+    }
+    true
+}
+
 /// The order of a triple's subject and predicate against a subject and the IRI of a predicate.
 fn compare_key(triple: &Triple, subject: &Term, predicate: &str) -> Ordering
     ensures { result ≡ ordering_then (term_cmp triple.now.subject subject.now)
@@ -274,12 +309,12 @@ fn object_at(triples: &[Triple], place: usize) -> Option<&Term>
     triples.get(place).map(|triple| &triple.object)
 }
 
-/// The order of the object at a place against an object.
-fn compare_object(triples: &[Triple], place: usize, object: &Term) -> Ordering
-    ensures { result ≡ option_cmp term_cmp (object_at_place triples.now place) (Some object.now) }
+/// The order of the object at a place against an object that has this hash.
+fn compare_object(triples: &[Triple], place: usize, hash: u64, object: &Term) -> Ordering
+    ensures { result ≡ sought_cmp hash object.now (object_at_place triples.now place) }
 {
     match object_at(triples, place) {
-        Some(own) => own.compare(object),
+        Some(own) => hash_term(own).cmp(&hash).then_with(|| own.compare(object)),
         None => Ordering::Less,
     }
 }
@@ -288,16 +323,25 @@ fn compare_object(triples: &[Triple], place: usize, object: &Term) -> Ordering
 fn compare_places(triples: &[Triple], i: usize, j: usize) -> Ordering
     ensures { result ≡ place_cmp triples.now i j }
 {
-    match object_at(triples, j) {
-        Some(object) => compare_object(triples, i, object).then_with(|| i.cmp(&j)),
-        None => match object_at(triples, i) {
-            Some(_) => Ordering::Greater,
+    match object_at(triples, i) {
+        Some(own) => match object_at(triples, j) {
+            Some(object) => compare_hashed(own, object).then_with(|| i.cmp(&j)),
+            None => Ordering::Greater,
+        },
+        None => match object_at(triples, j) {
+            Some(_) => Ordering::Less,
             None => i.cmp(&j),
         },
     }
 }
 
-/// The places of triples in the order of their objects.
+/// The hash of the object at a place, where there is one.
+fn hash_at(triples: &[Triple], place: usize) -> u64 {
+    object_at(triples, place).map_or(0, hash_term)
+}
+
+/// The places of triples in the order of their objects. Sorted by hash alone, with no triple
+/// looked at twice, they are in this order already, unless two objects share a hash.
 fn object_order(alloc: Global, triples: &[Triple]) -> Result<Vec<usize>, OutOfMemory>
     ensures { IfOk result (λ places. IsObjectOrder triples.now places.items) }
 {
@@ -305,6 +349,7 @@ fn object_order(alloc: Global, triples: &[Triple]) -> Result<Vec<usize>, OutOfMe
     'listing: for place in 0..triples.len() {
         places.push(place)?;
     }
+    places.sort_by_cached_key(|place| hash_at(triples, *place))?;
     places.sort_unstable_by(|i, j| compare_places(triples, *i, *j));
     Ok(places)
 }

@@ -110,7 +110,8 @@ impl Term {
         !matches!(self, Term::Literal { .. })
     }
 
-    /// An equal term, which shares the bytes of its texts with this one. It takes no memory.
+    /// An equal term, which shares the bytes of its texts with this one. It takes no memory:
+    /// `OutOfMemory` comes as from [`Text::copy`].
     pub fn copy(&self, alloc: Global) -> Result<Term, OutOfMemory>
         ensures { IfOk result (λ t. t ≡ self.now) }
     {

@@ -53,7 +53,7 @@ impl Text {
     }
 
     /// An equal text that shares the bytes of this one. It takes no memory, and counts one more
-    /// copy.
+    /// copy: `OutOfMemory` comes where no more can be counted.
     pub fn copy(&self, _alloc: Global) -> Result<Text, OutOfMemory>
         ensures { IfOk result (λ t. t ≡ self.now) }
     {

@@ -66,7 +66,8 @@ impl Triple {
         &self.object
     }
 
-    /// An equal triple, which shares the bytes of its texts with this one. It takes no memory.
+    /// An equal triple, which shares the bytes of its texts with this one. It takes no memory:
+    /// `OutOfMemory` comes as from [`Text::copy`](crate::Text::copy).
     pub fn copy(&self, alloc: Global) -> Result<Triple, OutOfMemory>
         ensures { IfOk result (λ t. t ≡ self.now) }
     {

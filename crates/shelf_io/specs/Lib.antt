@@ -1,3 +1,4 @@
+-- Devices that bytes come from and go to: what contracts say of them.
 pub mod Calls
 pub mod Causes
 pub mod Content

@@ -11,7 +11,7 @@ use std::alloc::{AllocError, Global};
 /// `> ` and those of `notes` behind `! `.
 pub fn report_of(alloc: Global, cases: &Cases, case: &Case) -> Result<String, OutOfMemory> {
     let mut shelf = MemoryShelf::new(alloc);
-    hold_all(&mut shelf, &cases.documents)?;
+    hold_shared(&mut shelf, cases, case)?;
     hold_all(&mut shelf, &case.documents)?;
     let mut out = sink_of(alloc, &case.out)?;
     let mut notes = sink_of(alloc, &case.notes)?;
@@ -23,6 +23,17 @@ pub fn report_of(alloc: Global, cases: &Cases, case: &Case) -> Result<String, Ou
     push_lines(&mut report, "> ", out.bytes())?;
     push_lines(&mut report, "! ", notes.bytes())?;
     Ok(report)
+}
+
+/// Holds the documents that all cases have, but those in whose place the case has one of its own: a
+/// shelf that holds a name anew keeps its pulls that are to fail.
+fn hold_shared(shelf: &mut MemoryShelf, cases: &Cases, case: &Case) -> Result<(), OutOfMemory> {
+    for shared in &cases.documents {
+        if !case.documents.iter().any(|own| own.name == shared.name) {
+            hold(shelf, shared)?;
+        }
+    }
+    Ok(())
 }
 
 fn hold_all(shelf: &mut MemoryShelf, documents: &[Document]) -> Result<(), OutOfMemory> {

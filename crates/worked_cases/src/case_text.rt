@@ -14,7 +14,8 @@
 //!     --- y.nt bytes                  a document by its bytes: pairs of hexadecimal digits
 //!
 //! Before the first document, and between a case's name and its first document, stand also empty lines
-//! and lines that begin with #, which say nothing.
+//! and lines that begin with #, which say nothing. No line of a document begins with === or ---, unless
+//! the document is written by its bytes.
 
 ghost use Rattle.std.specs.Prelude.{◌<◌, IfSome};
 
@@ -71,11 +72,14 @@ impl Draft {
         if let Some(name) = text.strip_prefix("=== ") {
             self.end_case()?;
             self.case = Some(Case::new(self.alloc, name)?);
-            return Ok(true);
+            return Ok(!name.is_empty());
         }
         if let Some(head) = text.strip_prefix("--- ") {
             self.end_document()?;
             return self.begin_document(head);
+        }
+        if text.starts_with("===") || text.starts_with("---") {
+            return Ok(false);
         }
         match &mut self.document {
             Some(document) => push_line(document, self.content, text),
@@ -112,7 +116,7 @@ impl Draft {
         let mut is_call = false;
         self.content = Content::Text;
         for word in said.split(' ') {
-            match (word, parse_numeral(word)) {
+            match (word, parse_call(word)) {
                 (_, Some(call)) if is_call => {
                     failing.push(call)?;
                     is_call = false;
@@ -139,7 +143,7 @@ impl Draft {
         }
         let (kind, rest) = split_word(text);
         match (kind, &mut self.case) {
-            ("words", None) => push_words(self.alloc, &mut self.done.words, rest)?,
+            ("words", None) => self.done.words = words_of(self.alloc, rest)?,
             ("words", Some(case)) => case.words = Some(words_of(self.alloc, rest)?),
             ("word", Some(case)) => case.push_word(self.alloc, rest)?,
             ("out", Some(case)) => return plan(&mut case.out, rest),
@@ -158,36 +162,36 @@ fn split_word(text: &str) -> (&str, &str) {
     }
 }
 
+/// The words of a line, with one space between two. An empty line has none.
 fn words_of(alloc: Global, text: &str) -> Result<Vec<String>, CaseError> {
     let mut words = Vec::new(alloc);
-    push_words(alloc, &mut words, text)?;
-    Ok(words)
-}
-
-fn push_words(alloc: Global, words: &mut Vec<String>, text: &str) -> Result<(), CaseError> {
     if text.is_empty() {
-        return Ok(());
+        return Ok(words);
     }
     for word in text.split(' ') {
         words.push(String::from_str(alloc, word)?)?;
     }
-    Ok(())
+    Ok(words)
 }
 
-/// The room of a sink, or the number of a write that is to fail.
+/// The number of a pull or a write, counted from 1.
+fn parse_call(digits: &str) -> Option<u64> {
+    parse_numeral(digits).filter(|call| *call > 0)
+}
+
+/// Takes the room of a sink, or the number of a write that is to fail.
 fn plan(sink: &mut SinkPlan, text: &str) -> Result<bool, CaseError> {
-    let (digits, fails) = match text.strip_prefix("fails ") {
-        Some(digits) => (digits, true),
-        None => (text, false),
-    };
-    let Some(number) = parse_numeral(digits) else {
+    if let Some(digits) = text.strip_prefix("fails ") {
+        let Some(call) = parse_call(digits) else {
+            return Ok(false);
+        };
+        sink.failing.push(call)?;
+        return Ok(true);
+    }
+    let Some(room) = parse_numeral(text) else {
         return Ok(false);
     };
-    if fails {
-        sink.failing.push(number)?;
-    } else {
-        sink.room = number;
-    }
+    sink.room = room;
     Ok(true)
 }
 

@@ -3,6 +3,7 @@ use shelf_io::{
     read_document, write_all_of,
 };
 use std::fs;
+use std::io::BufWriter;
 use std::test::Fail;
 
 #[test]
@@ -107,7 +108,9 @@ fn file_shelf_reads_files(rt: HostRuntime) -> Result<(), Fail> {
 
 #[test]
 fn std_sink_writes_to_a_stream(rt: HostRuntime) -> Result<(), Fail> {
-    let mut out = StdSink::new(fs::create(&rt, "out.txt")?);
+    // each write is flushed, so that the file has it while the sink is there
+    let buffered = BufWriter::new(rt.alloc(), fs::create(&rt, "out.txt")?)?;
+    let mut out = StdSink::new(buffered);
     assert_eq!(rt; write_all_of(&mut out, b"explanation 1\n"), Ok(()));
     assert_eq!(rt; write_all_of(&mut out, b"claim pair\n"), Ok(()));
     let written = fs::read(&rt, "out.txt")?;

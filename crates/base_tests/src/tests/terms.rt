@@ -1,4 +1,4 @@
-use super::making::{blank, iri, literal};
+use crate::making::{blank, iri, literal};
 use rdf_terms::vocab::rdf;
 use rdf_terms::{Graph, OutOfMemory, Scope, Term, Terms, Text, Triple, Triples, nodes_of};
 use std::alloc::Global;

@@ -1,4 +1,4 @@
--- The RDF vocabulary (RDF Schema 1.1, section 5; RDF 1.1 Concepts, section 3.3).
+-- The RDF vocabulary (RDF Schema 1.1, sections 3.3 and 5.2; RDF 1.1 Concepts, section 3.3).
 use Rattle.std.specs.Prelude.{ℕ, List, ◌++◌, codes}
 use Rattle.rdf_terms.specs.declared.term.Term.{Term}
 use Rattle.rdf_terms.specs.declared.term.Term.TheVariants.{Iri}

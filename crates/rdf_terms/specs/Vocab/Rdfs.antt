@@ -1,4 +1,4 @@
--- The vocabulary of RDF Schema 1.1.
+-- The vocabulary of RDF Schema 1.1 (sections 2.2 and 3.4).
 use Rattle.std.specs.Prelude.{ℕ, List, ◌++◌, codes}
 use Rattle.rdf_terms.specs.declared.term.Term.{Term}
 use Rattle.rdf_terms.specs.declared.term.Term.TheVariants.{Iri}

@@ -1,4 +1,4 @@
-//! The RDF vocabulary (RDF Schema 1.1, section 5; RDF 1.1 Concepts, section 3.3).
+//! The RDF vocabulary (RDF Schema 1.1, sections 3.3 and 5.2; RDF 1.1 Concepts, section 3.3).
 
 /// `rdf:type`
 pub const TYPE: &str = "http://www.w3.org/1999/02/22-rdf-syntax-ns#type";

@@ -3,10 +3,13 @@ use Rattle.std.specs.Str.{chars}
 use Rattle.grammar_forms.specs.Reading.{one_at}
 use Rattle.grammar_forms.proofs.Exactness.{one_exact, one_nonempty}
 use Rattle.grammar_forms.proofs.Loops.{consumes, begins, passed_more, passed_done, skips}
+use Rattle.rdf_grammar.proofs.Skipping.{passed_before}
 use Rattle.rdf_grammar.proofs.characters.skip.Goals as goal
 
 pub class-init : goal.class-init
-class-init g c = (search rules, ([], begins (one_at (g.C.CharClass.test c.args.class.now)) (chars c.args.text.now)))
+class-init g c =
+    let p = g.C.CharClass.test c.args.class.now in
+    (search rules, passed_before p (chars c.args.text.now) _ _ c.skip_ascii-rest.ensures ([], begins (one_at p) (chars c.args.text.now)))
 
 pub class-preserved : goal.class-preserved
 class-preserved g c =

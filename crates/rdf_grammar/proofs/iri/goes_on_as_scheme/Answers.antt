@@ -1,4 +1,4 @@
-use Rattle.std.proofs.Common.{Some, None, sym, ◌∙◌}
+use Rattle.std.proofs.Common.{Some, None, sym}
 use Rattle.rdf_grammar.proofs.Productions.{no_colon}
 use Rattle.rdf_grammar.proofs.iri.goes_on_as_scheme.Goals as goal
 

@@ -1,5 +1,4 @@
-use Rattle.std.proofs.Common.{sym, subst, IsTrue, Contains, ◌↔◌}
-use Rattle.rdf_terms.specs.Graph.{triples}
+use Rattle.std.proofs.Common.{sym}
 use Rattle.rdf_terms.proofs.GraphLaws.{triples_is}
 use Rattle.rdf_terms.specs.TermOrder.{statement_cmp_total, statement_cmp-IsAntisymmetric}
 use Rattle.rdf_terms.proofs.Sets.{has_none}
@@ -13,11 +12,7 @@ pub returns-in-Ok-clause-value : goal.returns-in-Ok-clause-value
 returns-in-Ok-clause-value c = sym (has_at statement_cmp_total statement_cmp-IsAntisymmetric c.args.self.now c.args.triple.now c.in-Ok.field-0 c.in-Ok.ensures.found)
 
 pub returns-in-Err-clause-listed : goal.returns-in-Err-clause-listed
-returns-in-Err-clause-listed c =
-    let none = has_none statement_cmp_total statement_cmp-IsAntisymmetric c.args.self.now c.args.triple.now c.in-Err.field-0 c.in-Err.ensures.absent in
-    subst (λ b. IsTrue b ↔ Contains (triples c.args.self.now) c.args.triple.now) none (triples_is c.args.self.now c.args.triple.now)
+returns-in-Err-clause-listed c = triples_is c.args.self.now
 
 pub returns-in-Ok-clause-listed : goal.returns-in-Ok-clause-listed
-returns-in-Ok-clause-listed c =
-    let some = has_at statement_cmp_total statement_cmp-IsAntisymmetric c.args.self.now c.args.triple.now c.in-Ok.field-0 c.in-Ok.ensures.found in
-    subst (λ b. IsTrue b ↔ Contains (triples c.args.self.now) c.args.triple.now) some (triples_is c.args.self.now c.args.triple.now)
+returns-in-Ok-clause-listed c = triples_is c.args.self.now

@@ -5,7 +5,7 @@ use Rattle.std.proofs.lemmas.List.Sorted.{IsPartitionPoint-from_clause}
 use Rattle.rdf_terms.specs.Statement.{statement_cmp}
 use Rattle.rdf_terms.specs.Graph.{triples, ArePlacesOfObject}
 use Rattle.rdf_terms.specs.ObjectOrder.{IsObjectOrder}
-use Rattle.rdf_terms.proofs.ObjectPlaces.{key_at, keys_at_rise, tied_places}
+use Rattle.rdf_terms.proofs.ObjectPlaces.{sought_at, sought_at_rise, sought_places}
 use Rattle.rdf_terms.proofs.Parts.{ends_ordered, part_is, below_parts, up_to_parts}
 use Rattle.rdf_terms.proofs.Sets.{items-of_rising}
 use Rattle.rdf_terms.proofs.graph.Graph.places_of_object.Goals as goal
@@ -15,8 +15,8 @@ slice_bounds-result-count c =
     let ts = c.as_slice-triples.result.now in
     let ps = c.as_slice-places.result.now in
     let order = subst (λ us. IsObjectOrder us ps) (sym c.as_slice-triples.ensures.value) (subst (IsObjectOrder c.self.inside.items.items) (sym c.as_slice-places.ensures.value) c.self.invariant.1) in
-    let key = key_at ts c.args.object.now in
-    let rises = keys_at_rise ts ps c.args.object.now order.rises in
+    let key = sought_at ts c.hash_term-hash.result c.args.object.now in
+    let rises = sought_at_rise ts ps c.args.object.now c.hash_term-hash.result c.hash_term-hash.ensures order.rises in
     let low = IsPartitionPoint-from_clause (λ i. is_lt (key i)) ps _ c.partition_point-first.ensures.partitioned (below_parts key ps rises) (λ a r f' k. search rules) in
     let high = IsPartitionPoint-from_clause (λ i. is_le (key i)) ps _ c.partition_point-after.ensures.partitioned (up_to_parts key ps rises) (λ a r f' k. search rules) in
     ends_ordered key ps _ _ c.partition_point-first.ensures.bound low high
@@ -26,8 +26,8 @@ slice_bounds-result-start c =
     let ts = c.as_slice-triples.result.now in
     let ps = c.as_slice-places.result.now in
     let order = subst (λ us. IsObjectOrder us ps) (sym c.as_slice-triples.ensures.value) (subst (IsObjectOrder c.self.inside.items.items) (sym c.as_slice-places.ensures.value) c.self.invariant.1) in
-    let key = key_at ts c.args.object.now in
-    let rises = keys_at_rise ts ps c.args.object.now order.rises in
+    let key = sought_at ts c.hash_term-hash.result c.args.object.now in
+    let rises = sought_at_rise ts ps c.args.object.now c.hash_term-hash.result c.hash_term-hash.ensures order.rises in
     let low = IsPartitionPoint-from_clause (λ i. is_lt (key i)) ps _ c.partition_point-first.ensures.partitioned (below_parts key ps rises) (λ a r f' k. search rules) in
     let high = IsPartitionPoint-from_clause (λ i. is_le (key i)) ps _ c.partition_point-after.ensures.partitioned (up_to_parts key ps rises) (λ a r f' k. search rules) in
     let le = ends_ordered key ps _ _ c.partition_point-first.ensures.bound low high in
@@ -38,10 +38,10 @@ returns c =
     let ts = c.as_slice-triples.result.now in
     let ps = c.as_slice-places.result.now in
     let order = subst (λ us. IsObjectOrder us ps) (sym c.as_slice-triples.ensures.value) (subst (IsObjectOrder c.self.inside.items.items) (sym c.as_slice-places.ensures.value) c.self.invariant.1) in
-    let key = key_at ts c.args.object.now in
-    let rises = keys_at_rise ts ps c.args.object.now order.rises in
+    let key = sought_at ts c.hash_term-hash.result c.args.object.now in
+    let rises = sought_at_rise ts ps c.args.object.now c.hash_term-hash.result c.hash_term-hash.ensures order.rises in
     let low = IsPartitionPoint-from_clause (λ i. is_lt (key i)) ps _ c.partition_point-first.ensures.partitioned (below_parts key ps rises) (λ a r f' k. search rules) in
     let high = IsPartitionPoint-from_clause (λ i. is_le (key i)) ps _ c.partition_point-after.ensures.partitioned (up_to_parts key ps rises) (λ a r f' k. search rules) in
     let shown = c.as_slice-triples.ensures.value ∙ sym (items-of_rising statement_cmp c.self.inside.items.items c.self.invariant.0) ∙ ap triples c.self.view_is in
     subst (ArePlacesOfObject (triples c.args.self.now) c.args.object.now) (sym (part_is key ps _ _ c.partition_point-first.ensures.bound low high))
-    (subst (λ us. ArePlacesOfObject us c.args.object.now (filter (λ i. is_eq (key i)) ps)) shown (tied_places ts ps c.args.object.now order))
+    (subst (λ us. ArePlacesOfObject us c.args.object.now (filter (λ i. is_eq (key i)) ps)) shown (sought_places ts ps c.args.object.now c.hash_term-hash.result c.hash_term-hash.ensures order))

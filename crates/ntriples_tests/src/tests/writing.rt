@@ -1,4 +1,4 @@
-use super::making::{blank, iri, literal};
+use base_tests::making::{blank, iri, literal};
 use ntriples_io::{read_ntriples, write_graph, write_term, write_triple};
 use rdf_terms::vocab::{rdf, xsd};
 use rdf_terms::{Bytes, Graph, OutOfMemory, Scope, Term, Text, Triple, Triples};
