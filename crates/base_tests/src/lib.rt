@@ -1,4 +1,4 @@
-//! Tests of terms, devices and numerals, and terms that tests are made with.
+//! Tests of terms, graphs, numerals and proof lines, and terms that tests are made with.
 #![tactic(auto)]
 
 pub mod making;

@@ -2,7 +2,7 @@
 ghost use Rattle.std.specs.Prelude.{◌≡◌, IfOk};
 ghost use Rattle.std.specs.Option.{option_map};
 
-use rdf_terms::{OutOfMemory, Scope, Term, Text};
+use rdf_terms::{Graph, OutOfMemory, Scope, Term, Text, Triple, Triples};
 use std::alloc::Global;
 
 /// The IRI of these characters (RDF 1.1 Concepts 3.2). Want of memory is the one error.
@@ -38,4 +38,23 @@ pub fn literal(
         datatype: Text::from_str(alloc, datatype)?,
         tag,
     })
+}
+
+/// The triple of three IRIs. Want of memory is the one error.
+pub fn triple(alloc: Global, words: [&str; 3]) -> Result<Triple, OutOfMemory> {
+    let [subject, predicate, object] = words;
+    Ok(Triple {
+        subject: Term::Iri(Text::from_str(alloc, subject)?),
+        predicate: Term::Iri(Text::from_str(alloc, predicate)?),
+        object: Term::Iri(Text::from_str(alloc, object)?),
+    })
+}
+
+/// The graph of triples of three IRIs each. Want of memory is the one error.
+pub fn graph(alloc: Global, rows: &[[&str; 3]]) -> Result<Graph, OutOfMemory> {
+    let mut triples = Triples::new(alloc);
+    for words in rows {
+        triples.push(triple(alloc, *words)?)?;
+    }
+    Graph::from_triples(alloc, triples)
 }

@@ -1,6 +1,7 @@
-//! One happy path of each call that takes memory or reaches outside.
+//! One happy path of each call that takes memory.
 
-mod devices;
+mod graphs;
+mod navigation;
 mod numbers;
 mod proofs;
 mod terms;

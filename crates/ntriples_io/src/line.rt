@@ -64,7 +64,7 @@ fn parse_iri<'a>(
     ensures iri { IfOk result (λ x. IsTrue (is_iri x.0)) }
 {
     let (iri, rest) = parse_absolute_iri(alloc, text)?;
-    let iri = texts.text_of(iri)?;
+    let iri = texts.text_of_read(iri)?;
     Ok((Term::Iri(iri), rest))
 }
 
@@ -117,7 +117,7 @@ fn parse_datatype<'a>(
     if !is_not_lang_string(iri.as_str()) {
         return Err(ParseError::NoMatch);
     }
-    let iri = texts.text_of(iri)?;
+    let iri = texts.text_of_read(iri)?;
     Ok((iri, rest))
 }
 
@@ -188,7 +188,7 @@ fn parse_literal<'a>(
 {
     let (lexical, rest) = parse_string_literal(alloc, text)?;
     let ((datatype, tag), rest) = parse_kind_or_none(alloc, texts, rest)?;
-    let lexical = Text::from_string(lexical)?;
+    let lexical = texts.text_of_read(lexical)?;
     let literal = Term::Literal {
         lexical,
         datatype,

@@ -46,7 +46,8 @@ pub struct Draft {
 }
 
 impl Draft {
-    ghost use Rattle.proof_documents.specs.Stages.{nothing_read, document_of, TakesClaim, TakesAdd, TakesDelete, TakesAt, Takes};
+    ghost use Rattle.proof_documents.specs.Stages.{nothing_read, document_of, TakesClaim, TakesAdd};
+    ghost use Rattle.proof_documents.specs.Stages.{TakesDelete, TakesAt, Takes};
     ghost use Rattle.proof_documents.specs.Refusing.{IsRefused};
     ghost use Rattle.proof_documents.specs.Taking.{Took};
 

@@ -1,4 +1,5 @@
-ghost use Rattle.std.specs.Prelude.{◌≡◌, ◌<◌, ◌↔◌, IfSome, IsTrue, is_some, not, codes, length, string_bytes};
+ghost use Rattle.std.specs.Prelude.{◌≡◌, ◌<◌, ◌↔◌, IfSome, IsTrue, is_some, not, codes, length};
+ghost use Rattle.std.specs.Cow.{cow_str_bytes};
 ghost use Rattle.std.specs.List.{find};
 ghost use Rattle.std.specs.Str.{chars};
 ghost use Rattle.grammar_forms.specs.Reading.{before, skip_at};
@@ -11,6 +12,7 @@ use crate::characters::{CharClass, strip_char};
 use crate::escapes::parse_uchar;
 use crate::quoted::{Quoted, parse_quoted};
 use std::alloc::Global;
+use std::borrow::CowStr;
 
 /// Whether the character may stand in an IRI: any but U+0000 to U+0020 and ``< > " { } | ^ ` \``.
 #[tactic(auto, unfolding(crate::specs::Productions::is_iri_char))]
@@ -57,8 +59,8 @@ fn parse_iri_escape(text: &str) -> Option<(char, &str)>
 /// IRIREF: an IRI or a relative reference between `<` and `>`. `NoMatch` where the text does not
 /// begin with one; a UCHAR in it has to name a character that may stand in an IRI.
 #[tactic(auto, unfolding(crate::specs::Reading::iriref_at, crate::specs::Reading::iri_parts_at, crate::specs::Reading::iri_part_at))]
-pub fn parse_iriref(alloc: Global, text: &str) -> Result<(String, &str), ParseError>
-    ensures { GivesOr (λ s. string_bytes s) result (iriref_at (chars text.now)) }
+pub fn parse_iriref<'a>(alloc: Global, text: &'a str) -> Result<(CowStr<'a>, &'a str), ParseError>
+    ensures { GivesOr (λ s. cow_str_bytes s) result (iriref_at (chars text.now)) }
 {
     let rest = strip_char(text, '<').ok_or(ParseError::NoMatch)?;
     let (iri, rest) = parse_quoted(alloc, &IriChars, rest)?;
@@ -110,8 +112,11 @@ pub fn has_scheme(iri: &str) -> bool
 
 /// An IRIREF that begins with a scheme. `NoMatch` also where it is a relative reference.
 #[tactic(auto, unfolding(crate::specs::Reading::absolute_iri_at))]
-pub fn parse_absolute_iri(alloc: Global, text: &str) -> Result<(String, &str), ParseError>
-    ensures { GivesOr (λ s. string_bytes s) result (absolute_iri_at (chars text.now)) }
+pub fn parse_absolute_iri<'a>(
+    alloc: Global,
+    text: &'a str,
+) -> Result<(CowStr<'a>, &'a str), ParseError>
+    ensures { GivesOr (λ s. cow_str_bytes s) result (absolute_iri_at (chars text.now)) }
 {
     let (iri, rest) = parse_iriref(alloc, text)?;
     if !has_scheme(iri.as_str()) {

@@ -1,4 +1,5 @@
-ghost use Rattle.std.specs.Prelude.{◌≡◌, ◌<◌, ℕ, List, IfOk, IfSome, length, string_bytes};
+ghost use Rattle.std.specs.Prelude.{◌≡◌, ◌<◌, ℕ, List, Some, IfOk, IfSome, length, string_bytes};
+ghost use Rattle.std.specs.Cow.{cow_str_bytes};
 ghost use Rattle.std.specs.Str.{chars};
 ghost use Rattle.grammar_forms.specs.Reading.{Read, one_at, either_at, all_at, written_at};
 ghost use Rattle.rdf_grammar.specs.Answers.{Gives, GivesOr, PushesRun};
@@ -7,6 +8,7 @@ use crate::ParseError;
 use crate::characters::{CharClass, front, skip};
 use rdf_terms::OutOfMemory;
 use std::alloc::Global;
+use std::borrow::CowStr;
 
 /// What stands between two marks: characters of a class, which mean themselves, and escapes.
 pub trait Quoted: CharClass {
@@ -18,8 +20,38 @@ pub trait Quoted: CharClass {
         ensures shorter { IfSome result (λ x. length (chars x.1.now) < length (chars text.now)) };
 }
 
-/// The characters at the front that may stand between the marks, with their escapes resolved.
+/// The characters at the front that may stand between the marks, with their escapes resolved. They
+/// are borrowed where there is no escape.
 pub fn parse_quoted<'a, Q: Quoted>(
+    alloc: Global,
+    quoted: &Q,
+    text: &'a str,
+) -> Result<(CowStr<'a>, &'a str), ParseError>
+    ensures { GivesOr (λ s. cow_str_bytes s) result
+        (written_at (all_at (either_at (one_at (Q.test quoted.now)) (Q.escape_at quoted.now))) (chars text.now)) }
+{
+    if let Some((run, rest)) = parse_plain(quoted, text) {
+        return Ok((CowStr::Borrowed(run), rest));
+    }
+    let (resolved, rest) = parse_escaped(alloc, quoted, text)?;
+    Ok((CowStr::Owned(resolved), rest))
+}
+
+/// The characters at the front that may stand between the marks, where no escape stands behind them.
+fn parse_plain<'a, Q: Quoted>(quoted: &Q, text: &'a str) -> Option<(&'a str, &'a str)>
+    ensures { IfSome result (λ x.
+        written_at (all_at (either_at (one_at (Q.test quoted.now)) (Q.escape_at quoted.now))) (chars text.now)
+        ≡ Some (x.0.now, chars x.1.now)) }
+{
+    let rest = skip(quoted, text);
+    match quoted.parse_escape(rest) {
+        None => Some((front(text, rest), rest)),
+        Some(_) => None,
+    }
+}
+
+/// The same with escapes among them, which are resolved.
+fn parse_escaped<'a, Q: Quoted>(
     alloc: Global,
     quoted: &Q,
     text: &'a str,

@@ -1,4 +1,5 @@
-ghost use Rattle.std.specs.Prelude.{◌≡◌, ◌<◌, IfSome, length, string_bytes};
+ghost use Rattle.std.specs.Prelude.{◌≡◌, ◌<◌, IfSome, length};
+ghost use Rattle.std.specs.Cow.{cow_str_bytes};
 ghost use Rattle.std.specs.Str.{chars};
 ghost use Rattle.rdf_grammar.specs.Answers.{Gives, GivesOr};
 ghost use Rattle.rdf_grammar.specs.Productions.{is_string_char};
@@ -9,6 +10,7 @@ use crate::characters::{CharClass, strip_char};
 use crate::escapes::{parse_echar, parse_uchar};
 use crate::quoted::{Quoted, parse_quoted};
 use std::alloc::Global;
+use std::borrow::CowStr;
 
 /// Whether the character may stand in a quoted string as itself: any but `"`, `\`, CR and LF.
 #[tactic(auto, unfolding(crate::specs::Productions::is_string_char))]
@@ -53,8 +55,11 @@ fn parse_string_escape(text: &str) -> Option<(char, &str)>
 /// STRING_LITERAL_QUOTE: what stands between two quotation marks, with its escapes resolved.
 /// `NoMatch` where the text does not begin with one.
 #[tactic(auto, unfolding(crate::specs::Reading::string_at, crate::specs::Reading::string_parts_at, crate::specs::Reading::string_part_at))]
-pub fn parse_string_literal(alloc: Global, text: &str) -> Result<(String, &str), ParseError>
-    ensures { GivesOr (λ s. string_bytes s) result (string_at (chars text.now)) }
+pub fn parse_string_literal<'a>(
+    alloc: Global,
+    text: &'a str,
+) -> Result<(CowStr<'a>, &'a str), ParseError>
+    ensures { GivesOr (λ s. cow_str_bytes s) result (string_at (chars text.now)) }
 {
     let rest = strip_char(text, '"').ok_or(ParseError::NoMatch)?;
     let (lexical, rest) = parse_quoted(alloc, &StringChars, rest)?;

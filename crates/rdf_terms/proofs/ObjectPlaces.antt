@@ -1,5 +1,5 @@
 -- The places of triples in the order of their objects: how the order is made, searched and kept.
-use Rattle.std.proofs.Common.{◌≡◌, ℕ, zero, suc, ◌+◌, ◌-◌, ◌<◌, ◌≤◌, ◌⊎◌, inl, inr, Bool, true, false, List, [], ◌∷◌, map, length, get_or, slice_get, Option, Some, None, Contains, refl, sym, ap, ◌∙◌, subst, arith}
+use Rattle.std.proofs.Common.{◌≡◌, ℕ, zero, suc, ◌+◌, ◌-◌, ◌<◌, ◌≤◌, ◌⊎◌, ◌↔◌, inl, inr, Bool, true, false, List, [], ◌∷◌, map, length, get_or, slice_get, Option, Some, None, Contains, refl, sym, ap, ◌∙◌, subst, arith}
 use Rattle.std.proofs.Math.Path.{fun_ext}
 use Rattle.std.specs.declared.cmp.Ordering.{Ordering}
 use Rattle.std.specs.declared.cmp.Ordering.TheVariants.{Less, Equal, Greater}
@@ -24,7 +24,7 @@ use Rattle.rdf_terms.specs.declared.term.Term.{Term}
 use Rattle.rdf_terms.specs.Statement.{Statement}
 use Rattle.rdf_terms.specs.Set.{is_rising}
 use Rattle.rdf_terms.specs.Graph.{object_at, ArePlacesOfObject}
-use Rattle.rdf_terms.specs.ObjectOrder.{place_cmp, sought_cmp, IsObjectOrder, moved_place}
+use Rattle.rdf_terms.specs.ObjectOrder.{place_cmp, sought_cmp, IsObjectOrder, moved_place, AreAllPlaces, object_hash}
 use Rattle.rdf_terms.specs.TermOrder.{term_cmp_total, term_cmp-IsAntisymmetric}
 use Rattle.rdf_terms.proofs.Orders.{lt_or_le, less_of, equal_of, first_not_below, both_ties}
 use Rattle.rdf_terms.proofs.Parts.{below_parts}
@@ -128,15 +128,33 @@ module _ (ts : List Statement) where
   pub sought_places : (places : List ℕ) (o : Term) (hash : ℕ) → hash ≡ term_hash o → IsObjectOrder ts places → ArePlacesOfObject ts o (filter (λ i. is_eq (sought_at hash o i)) places)
   sought_places places o hash e order = subst (λ k. ArePlacesOfObject ts o (filter (λ i. is_eq (k i)) places)) (sym (sought_at_is o hash e)) (tied_places places o order)
 
-  -- all places, sorted
-  pub sorted_places : (places sorted : List ℕ) → length places ≡ length ts → ((k : ℕ) → k < length ts → get_or places k 0 ≡ k) → IsPermutation places sorted → IsSortedBy (λ i j. is_lt (place_cmp ts i j)) sorted → IsObjectOrder ts sorted
-  sorted_places places sorted long each moved up = record { rises = rising_of_distinct place_cmp_total sorted up distinct; all = λ i. (there i, back i) }
+  -- all places, in another order
+  pub permuted_all : (places others : List ℕ) → AreAllPlaces ts places → IsPermutation places others → (i : ℕ) → Contains others i ↔ (i < length ts)
+  permuted_all places others are moved i = (there, back)
     where
       at : (k d : ℕ) → k < length ts → get_or places k d ≡ k
-      at k d lt = get_or_default places k d 0 (omega arith) ∙ each k lt
+      at k d lt = get_or_default places k d 0 (let long = are.long in omega arith) ∙ are.each k lt
+
+      there : Contains others i → i < length ts
+      there c = let p = Contains-permutation others places i (IsPermutation-sym places others moved) c in
+          let lt = p.1 in
+          let k = p.0 in
+          let long = are.long in
+          let e : k ≡ i = sym (at k i (omega arith)) ∙ p.2 in
+          omega arith
+
+      back : i < length ts → Contains others i
+      back lt = let long = are.long in Contains-permutation places others i moved (i, omega arith, at i i lt)
+
+  -- all places, sorted
+  pub sorted_places : (places sorted : List ℕ) → AreAllPlaces ts places → IsPermutation places sorted → IsSortedBy (λ i j. is_lt (place_cmp ts i j)) sorted → IsObjectOrder ts sorted
+  sorted_places places sorted are moved up = record { rises = rising_of_distinct place_cmp_total sorted up distinct; all = permuted_all places sorted are moved }
+    where
+      at : (k d : ℕ) → k < length ts → get_or places k d ≡ k
+      at k d lt = get_or_default places k d 0 (let long = are.long in omega arith) ∙ are.each k lt
 
       apart : (i j d : ℕ) → i < j → j < length places → eq_by_cmp (place_cmp ts) (get_or places i d) (get_or places j d) ≡ false
-      apart i j d lt within = (λ n. eq_by_cmp (place_cmp ts) (at i d (omega arith) n) (at j d (omega arith) n)) ∙ by _ refl
+      apart i j d lt within = let long = are.long in (λ n. eq_by_cmp (place_cmp ts) (at i d (omega arith) n) (at j d (omega arith) n)) ∙ by _ refl
         where
           by : (o : Ordering) → place_cmp ts i j ≡ o → is_eq o ≡ false
           by Less e = refl
@@ -146,15 +164,19 @@ module _ (ts : List Statement) where
       distinct : IsDistinct (eq_by_cmp (place_cmp ts)) sorted
       distinct = IsDistinct-IsPermutation (eq_by_cmp (place_cmp ts)) ((eq_by_cmp_equiv place_cmp_total).symm) places sorted moved (IsDistinct-from_apart _ places apart)
 
-      there : (i : ℕ) → Contains sorted i → i < length ts
-      there i c = let p = Contains-permutation sorted places i (IsPermutation-sym places sorted moved) c in
-          let lt = p.1 in
-          let k = p.0 in
-          let e : k ≡ i = sym (at k i (omega arith)) ∙ p.2 in
-          omega arith
+  -- a smaller hash comes first
+  pub before_by_hash : (i j : ℕ) → object_hash (object_at ts i) < object_hash (object_at ts j) → place_cmp ts i j ≡ Less
+  before_by_hash i j lt = by (object_at ts i) (object_at ts j) lt
+    where
+      by : (a b : Option Term) → object_hash a < object_hash b → ordering_then (object_cmp a b) (nat_cmp i j) ≡ Less
+      by None None l = absurd (omega arith)
+      by None (Some y) l = refl
+      by (Some x) None l = absurd (omega arith)
+      by (Some x) (Some y) l = ap (λ o. ordering_then (ordering_then o (term_cmp x y)) (nat_cmp i j)) (nat_less (term_hash x) (term_hash y) l)
 
-      back : (i : ℕ) → i < length ts → Contains sorted i
-      back i lt = Contains-permutation places sorted i moved (i, omega arith, at i i lt)
+  -- of one object, the earlier place
+  pub before_by_place : (i j : ℕ) → object_at ts i ≡ object_at ts j → i < j → place_cmp ts i j ≡ Less
+  before_by_place i j e lt = ap (λ a. ordering_then (object_cmp (object_at ts i) a) (nat_cmp i j)) (sym e) ∙ ap (λ o. ordering_then o (nat_cmp i j)) (object_tied (object_at ts i)) ∙ nat_less i j lt
 
 -- a triple that is inserted moves the later places
 pub moved_before : (from i : ℕ) → i < from → moved_place from i ≡ i

@@ -10,6 +10,9 @@ ghost use Rattle.rdf_terms.specs.Graph.{without as difference, edited as edited_
 ghost use Rattle.rdf_terms.specs.Graph.{triples_of as triples_of_graph};
 ghost use Rattle.rdf_terms.specs.Graph.{object_at as object_at_place, ArePlacesOfObject};
 ghost use Rattle.rdf_terms.specs.ObjectOrder.{place_cmp, sought_cmp, IsObjectOrder, moved_place};
+ghost use Rattle.rdf_terms.specs.ObjectOrder.{AreAllPlaces, HasHash, object_hash, places_in};
+ghost use Rattle.rdf_terms.specs.Set.{is_rising as is_set_rising};
+ghost use Rattle.std.specs.declared.cmp.Ordering.TheVariants.{Less};
 
 use crate::presort::presort;
 use crate::term_hash::{compare_hashed, hash_term};
@@ -335,23 +338,81 @@ fn compare_places(triples: &[Triple], i: usize, j: usize) -> Ordering
     }
 }
 
-/// The hash of the object at a place, where there is one.
-fn hash_at(triples: &[Triple], place: usize) -> u64 {
-    object_at(triples, place).map_or(0, hash_term)
+/// The place of a triple, with the hash of its object.
+#[derive(Clone, Copy, Debug)]
+pub(crate) struct HashedPlace {
+    hash: u64,
+    place: usize,
 }
 
-/// The places of triples in the order of their objects. Sorted by hash alone, with no triple
-/// looked at twice, they are in this order already, unless two objects share a hash.
+/// The hash of the object at a place, where there is one.
+fn hash_at(triples: &[Triple], place: usize) -> u64
+    ensures { result ≡ object_hash (object_at_place triples.now place) }
+{
+    match object_at(triples, place) {
+        Some(object) => hash_term(object),
+        None => 0,
+    }
+}
+
+/// The places of triples, with the hashes of their objects.
+fn hashed_places(alloc: Global, triples: &[Triple]) -> Result<Vec<HashedPlace>, OutOfMemory>
+    ensures places { IfOk result (λ hashed. AreAllPlaces triples.now (places_in hashed.items)) }
+    ensures hashes { IfOk result (λ hashed. All (HasHash triples.now) hashed.items) }
+{
+    let mut hashed = Vec::with_capacity(alloc, triples.len())?;
+    'listing: for place in 0..triples.len() {
+        let hash = hash_at(triples, place);
+        hashed.push(HashedPlace { hash, place })?;
+    }
+    Ok(hashed)
+}
+
+/// Whether one place stands before another by its object, as far as their hashes tell.
+fn is_before(triples: &[Triple], a: HashedPlace, b: HashedPlace) -> bool
+    requires first { HasHash triples.now a }
+    requires second { HasHash triples.now b }
+    ensures { IsTrue result → place_cmp triples.now a.place b.place ≡ Less }
+{
+    if a.hash != b.hash {
+        return a.hash < b.hash;
+    }
+    a.place < b.place && object_at(triples, a.place) == object_at(triples, b.place)
+}
+
+/// Whether places stand in the order of their objects.
+fn do_rise_by_object(triples: &[Triple], hashed: &[HashedPlace]) -> bool
+    requires { All (HasHash triples.now) hashed.now }
+    ensures { IsTrue result → IsTrue (is_set_rising (place_cmp triples.now) (places_in hashed.now)) }
+{
+    'neighbours: for i in 1..hashed.len() {
+        if !is_before(triples, hashed[i - 1], hashed[i]) {
+            return false;
+        }
+    }
+    true
+}
+
+/// The places of triples in the order of their objects. Sorted by hash alone they are in this order
+/// already, unless two objects share a hash.
 fn object_order(alloc: Global, triples: &[Triple]) -> Result<Vec<usize>, OutOfMemory>
     ensures { IfOk result (λ places. IsObjectOrder triples.now places.items) }
 {
-    let mut places = Vec::with_capacity(alloc, triples.len())?;
-    'listing: for place in 0..triples.len() {
-        places.push(place)?;
+    let mut hashed = hashed_places(alloc, triples)?;
+    hashed.sort_by_key(|at| at.hash)?;
+    let mut places = places_of(alloc, hashed.as_slice())?;
+    if do_rise_by_object(triples, hashed.as_slice()) {
+        return Ok(places);
     }
-    places.sort_by_cached_key(|place| hash_at(triples, *place))?;
     places.sort_unstable_by(|i, j| compare_places(triples, *i, *j));
     Ok(places)
+}
+
+/// The places alone.
+fn places_of(alloc: Global, hashed: &[HashedPlace]) -> Result<Vec<usize>, OutOfMemory>
+    ensures { IfOk result (λ places. places.items ≡ places_in hashed.now) }
+{
+    Ok(hashed.iter().map(|at| at.place).collect(alloc)?)
 }
 
 /// Inserts a triple into a list at a place, and the place into the order of their objects. After

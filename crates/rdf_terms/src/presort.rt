@@ -7,42 +7,44 @@ ghost use Rattle.std.specs.List.Sorted.{IsPermutation};
 use crate::{OutOfMemory, Term, Text, Triple};
 use std::alloc::Global;
 
-/// How many bytes of a text are kept.
-const HEAD_LEN: usize = 15;
+/// The place of a triple, with the head of its subject: the kind of the node, and the first bytes of
+/// its text behind those that are skipped in IRIs.
+#[derive(Clone, Copy, Debug)]
+struct HeadedPlace {
+    head: u128,
+    place: usize,
+}
 
 /// Sorts triples by the heads of their subjects, and those that share a head in full.
 pub(crate) fn presort(alloc: Global, triples: &mut [Triple]) -> Result<(), OutOfMemory>
     ensures { IsPermutation triples.old triples.new }
 {
-    let skipped = common_len(triples);
-    let mut sources = sources_by_head(alloc, triples, skipped)?;
+    let mut headed = headed_places(alloc, triples)?;
+    headed.sort_by_key(|at| at.head)?;
+    let mut sources = sources_of(alloc, headed.as_slice())?;
     gather(triples, sources.as_mut_slice());
-    sort_shared_heads(triples, skipped);
+    sort_shared_heads(triples, headed.as_slice());
     Ok(())
 }
 
-/// The places of triples in the order of the heads of their subjects.
-fn sources_by_head(
-    alloc: Global,
-    triples: &[Triple],
-    skipped: usize,
-) -> Result<Vec<usize>, OutOfMemory>
-    ensures { IfOk result (λ places. vec_len places ≡ length triples.now) }
+/// The places of triples, with the heads of their subjects.
+fn headed_places(alloc: Global, triples: &[Triple]) -> Result<Vec<HeadedPlace>, OutOfMemory>
+    ensures { IfOk result (λ headed. vec_len headed ≡ length triples.now) }
 {
-    let mut places = Vec::with_capacity(alloc, triples.len())?;
+    let skipped = common_len(triples);
+    let mut headed = Vec::with_capacity(alloc, triples.len())?;
     'listing: for place in 0..triples.len() {
-        places.push(place)?;
+        let head = head_of(triples[place].subject(), skipped);
+        headed.push(HeadedPlace { head, place })?;
     }
-    places.sort_by_cached_key(|place| head_at(triples, *place, skipped))?;
-    Ok(places)
+    Ok(headed)
 }
 
-/// The head of the subject at a place, where there is one.
-fn head_at(triples: &[Triple], place: usize, skipped: usize) -> u128 {
-    match triples.get(place) {
-        Some(triple) => head_of(triple.subject(), skipped),
-        None => 0,
-    }
+/// The places alone.
+fn sources_of(alloc: Global, headed: &[HeadedPlace]) -> Result<Vec<usize>, OutOfMemory>
+    ensures { IfOk result (λ places. vec_len places ≡ length headed.now) }
+{
+    Ok(headed.iter().map(|at| at.place).collect(alloc)?)
 }
 
 /// Exchanges triples until each place has the triple whose place the list names there, where it
@@ -67,25 +69,26 @@ fn gather(triples: &mut [Triple], sources: &mut [usize])
 }
 
 /// Sorts each stretch of triples whose subjects share a head.
-fn sort_shared_heads(triples: &mut [Triple], skipped: usize)
+fn sort_shared_heads(triples: &mut [Triple], headed: &[HeadedPlace])
+    requires { length headed.now ≡ length triples.old }
     ensures { IsPermutation triples.old triples.new }
 {
     let mut start = 0;
-    'stretches: while start < triples.len() {
-        let end = end_of_head(triples, skipped, start);
+    'stretches: while start < headed.len() {
+        let end = end_of_head(headed, start);
         triples[start..end].sort_unstable();
         start = end;
     }
 }
 
-/// The place behind the stretch of triples whose subjects share a head, from its first on.
-fn end_of_head(triples: &[Triple], skipped: usize, start: usize) -> usize
-    requires { start < length triples.now }
-    ensures { (start < result) × (result ≤ length triples.now) }
+/// The place behind the stretch that shares a head, from its first place on.
+fn end_of_head(headed: &[HeadedPlace], start: usize) -> usize
+    requires { start < length headed.now }
+    ensures { (start < result) × (result ≤ length headed.now) }
 {
-    let head = head_of(triples[start].subject(), skipped);
+    let head = headed[start].head;
     let mut end = start + 1;
-    'sharing: while end < triples.len() && head_of(triples[end].subject(), skipped) == head {
+    'sharing: while end < headed.len() && headed[end].head == head {
         end += 1;
     }
     end
@@ -122,19 +125,19 @@ fn shared_len(a: &str, b: &str) -> usize {
 /// order of these numbers, IRIs come before blank nodes, and both go by their bytes.
 fn head_of(node: &Term, skipped: usize) -> u128 {
     match node {
-        Term::Iri(iri) => push_bytes(0, iri.as_str(), skipped),
-        Term::Blank { label, .. } => push_bytes(1, label.as_str(), 0),
-        Term::Literal { lexical, .. } => push_bytes(2, lexical.as_str(), 0),
+        Term::Iri(iri) => pack(0, iri.as_str(), skipped),
+        Term::Blank { label, .. } => pack(1, label.as_str(), 0),
+        Term::Literal { lexical, .. } => pack(2, lexical.as_str(), 0),
     }
 }
 
-/// A number, and behind it the bytes of a text from one on, filled up with zeros.
-fn push_bytes(number: u128, text: &str, skipped: usize) -> u128 {
+/// A kind, and behind it 15 bytes of a text from one on, filled up with zeros.
+fn pack(kind: u8, text: &str, skipped: usize) -> u128 {
+    let mut head = [0u8; 16];
+    head[0] = kind;
     let bytes = text.as_bytes().get(skipped..).unwrap_or(&[]);
-    let mut number = number;
-    'bytes: for i in 0..HEAD_LEN {
-        let byte = bytes.get(i).copied().unwrap_or(0);
-        number = number.wrapping_mul(256).wrapping_add(u128::from(byte));
+    for (to, byte) in head[1..].iter_mut().zip(bytes) {
+        *to = *byte;
     }
-    number
+    u128::from_be_bytes(head)
 }

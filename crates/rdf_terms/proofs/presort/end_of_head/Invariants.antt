@@ -2,7 +2,7 @@ use Rattle.std.proofs.Common.{length, ◌-◌, ◌<◌, ◌≤◌}
 use Rattle.rdf_terms.proofs.presort.end_of_head.Given as goal
 
 abbrev pub invariant-sharing : goal.invariant-sharing
-invariant-sharing l = record { behind : l.start < l.end; within : l.end ≤ length l.triples }
+invariant-sharing l = record { behind : l.start < l.end; within : l.end ≤ length l.headed }
 
 abbrev pub decreases-sharing : goal.decreases-sharing
-decreases-sharing l = length l.triples - l.end
+decreases-sharing l = length l.headed - l.end

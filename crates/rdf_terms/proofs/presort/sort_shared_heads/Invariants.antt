@@ -6,4 +6,4 @@ abbrev pub invariant-stretches : goal.invariant-stretches
 invariant-stretches l = IsPermutation l.initial.triples l.triples
 
 abbrev pub decreases-stretches : goal.decreases-stretches
-decreases-stretches l = length l.initial.triples - l.start
+decreases-stretches l = length l.headed - l.start

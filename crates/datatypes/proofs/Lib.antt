@@ -1,0 +1,3 @@
+pub mod Agreement
+mod Others
+mod Sizes

@@ -1,0 +1,9 @@
+pub mod DepthBound
+pub mod DepthLaws
+pub mod LabelLaws
+pub mod Members
+pub mod Searched
+pub mod Settled
+pub mod ShortWalks
+pub mod SpanLaws
+pub mod WalkLaws

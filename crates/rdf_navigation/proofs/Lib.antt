@@ -1,0 +1,6 @@
+pub mod InstanceLaws
+pub mod ListLaws
+pub mod NumberLaws
+pub mod Places
+pub mod PropertyLaws
+pub mod TableLaws
