@@ -23,8 +23,6 @@ import time
 
 TOP = os.path.dirname(os.path.dirname(os.path.abspath(__file__)))
 PROGRAM = os.path.join(TOP, 'crates', 'shacl_explain', 'out', 'shacl_explain')
-# as the starter sets it
-os.environ.setdefault('GLIBC_TUNABLES', 'glibc.malloc.hugetlb=1')
 DONE = 0
 TOO_MANY = 7
 
