@@ -1,6 +1,6 @@
 //! Lexical forms and values of datatypes (XML Schema 1.1 Part 2, sections 3.3 and 3.4), as SHACL
 //! needs them: of `xsd:boolean`, of `xsd:decimal`, and of `xsd:integer` and those derived from it.
-//! Every lexical form of another datatype counts as well formed. No call takes memory, and each takes
+//! Every text of another datatype counts as well formed. No call takes memory, and each takes
 //! time linear in the texts that it is given.
 #![tactic(auto)]
 

@@ -58,6 +58,13 @@ module _ {X Y : Type 0} (f : X → Y) (here : X → Option (List X)) (there : Y 
     pub on_circle_along_within : (x : X) → P x → IsOnCircle here x → IsOnCircle there (f x)
     on_circle_along_within x p c = (f c.0, successor_along x c.0 p c.1, (map f c.2.0, walk_along c.2.0 c.0 x (closed x c.0 p c.1) c.2.1))
 
+    -- what is reached there is the image of something that is reached here
+    pub reached_image_within : (starts : List X) (y : Y) → ((s : X) → Contains starts s → P s) → IsReached there (map f starts) y → (x : X) × (f x ≡ y) × P x × IsReached here starts x
+    reached_image_within starts y within r =
+        let s = Contains-unmap f starts r.0 r.1 in
+        let b = walk_back r.2.0 s.0 y (within s.0 s.1) (subst (λ v. IsWalk (IsSuccessor there) r.2.0 v y) (sym s.2) r.2.1) in
+        (b.0, b.1, b.2, (s.0, s.1, b.3))
+
     -- the other way where no other node of the set has the same image
     pub reached_back_within : (starts : List X) (x : X) → ((s : X) → Contains starts s → P s) → ((z : X) → P z → f z ≡ f x → z ≡ x) → IsReached there (map f starts) (f x) → IsReached here starts x
     reached_back_within starts x within alone r =

@@ -6,7 +6,7 @@ pub record Findings : Type 0 where
   pub marks : List Bool
   pub met : List ℕ
 
--- a number beyond the marks counts as with_marks, so that it is never met
+-- a number beyond the marks counts as marked, so that it is never met
 abbrev pub is_marked : List Bool → ℕ → Bool
 is_marked marks y = slice_index_or marks y true
 

@@ -1,9 +1,6 @@
 -- Subclasses are reached against the triples, and the test of an instance says what an instance is.
-use Rattle.std.proofs.Common.{◌≡◌, ◌↔◌, ℕ, zero, suc, ◌+◌, ◌<◌, ◌≤◌, ◌⊎◌, inl, inr, Bool, true, false, ◌&&◌, IsTrue, List, [], ◌∷◌, ◌++◌, map, length, slice_get, slice_index_or, Contains, Option, Some, option_map, refl, sym, ap, ◌∙◌, subst, arith}
-use Rattle.std.proofs.lemmas.Bool.{false≢true, cases_lt}
-use Rattle.std.proofs.lemmas.List.Elements.{Contains-append_cases, Contains-append_left, Contains-push}
+use Rattle.std.proofs.Common.{◌≡◌, ◌↔◌, ℕ, zero, suc, ◌≤◌, ◌⊎◌, inl, inr, true, ◌&&◌, IsTrue, List, [], ◌∷◌, ◌++◌, map, length, Contains, Option, Some, refl, sym, ap, ◌∙◌, subst, arith}
 use Rattle.std.proofs.lemmas.List.{length-map}
-use Rattle.std.proofs.lemmas.Option.{slice_get-get_or}
 use Rattle.std.specs.List.{list_any, filter, flat_map}
 use Rattle.rdf_terms.specs.declared.term.Term.{Term}
 use Rattle.rdf_terms.specs.Statement.{Statement}
@@ -15,19 +12,16 @@ use Rattle.rdf_terms.specs.Vocab.Rdfs as rdfs
 use Rattle.rdf_terms.proofs.Bools.{both_left, both_right, both_true, either_left, either_right, either_of}
 use Rattle.rdf_terms.proofs.Orders.{same_term as equal_terms, term_tied}
 use Rattle.rdf_terms.proofs.GraphLaws.{has_listed, listed_of_has}
-use Rattle.rdf_terms.proofs.NodesLaws.{place_of_term, one_place_of_term, terms_is}
+use Rattle.rdf_terms.proofs.NodesLaws.{terms_is}
 use Rattle.rdf_terms.proofs.Members.{in_none, in_first, in_rest, in_cases, in_map, map_in, in_filter, filter_in, in_flat_map, flat_map_in}
 use Rattle.rdf_terms.proofs.Values.{IsListOf-objects}
 use Rattle.digraph.specs.Walk.{IsWalk}
 use Rattle.digraph.specs.Reach.{IsSuccessor, IsReached}
-use Rattle.digraph.specs.Digraph.{Digraph, successors_at}
-use Rattle.digraph.proofs.WalkLaws.{walk_more, reached_along_within, reached_back_within}
+use Rattle.digraph.proofs.WalkLaws.{walk_more}
 use Rattle.digraph.proofs.ShortWalks.{short_walk}
 use Rattle.rdf_navigation.specs.Values.{same_term, values, subjects}
 use Rattle.rdf_navigation.specs.Instances.{IsSubclass, IsInstance, leads_to, is_instance}
-use Rattle.rdf_navigation.specs.Numbers.{term_at, IsNumbered, IsEndOf}
 use Rattle.rdf_navigation.proofs.PropertyLaws.{any_in, in_any}
-use Rattle.rdf_navigation.proofs.NumberLaws.{at_place, place_within}
 
 -- the subjects of a value are exactly the terms that have it
 pub subjects_are : (g : Graph) (p y x : Term) → Contains (subjects g p y) x ↔ InGraph g x p y
@@ -54,7 +48,7 @@ walk_turned R S turn (z ∷ zs) x y w = let r = walk_turned R S turn zs z y w.1 
 
 module _ (g : Graph) where
   -- the classes right below a class
-  abbrev below : Term → Option (List Term)
+  abbrev pub below : Term → Option (List Term)
   below c = Some (subjects g rdfs.sub_class_of c)
 
   abbrev Above : Term → Term → Type 0
@@ -66,71 +60,16 @@ module _ (g : Graph) where
   above_below : (b c : Term) → Above b c → IsSuccessor below c b
   above_below b c h = (subjects g rdfs.sub_class_of c, refl, (subjects_are g rdfs.sub_class_of c b).1 h)
 
-  module _ (n : Nodes) (d : Digraph) (len : length d ≡ length (terms n)) (w : IsNumbered below n d) where
-    abbrev IsPlace : ℕ → Type 0
-    IsPlace i = i < length (terms n)
-
-    same_below : (i : ℕ) → IsPlace i → below (term_at n i) ≡ option_map (map (term_at n)) (successors_at d i)
-    same_below i l = w.same i (omega (arith, l, len))
-
-    closed_below : (i j : ℕ) → IsPlace i → IsSuccessor (successors_at d) i j → IsPlace j
-    closed_below i j l s = w.closed i j s
-
-    only_start : (start : ℕ) → IsPlace start → (s : ℕ) → Contains (start ∷ []) s → IsPlace s
-    only_start start l s c = at (in_cases start [] s c)
-      where
-        at : (start ≡ s) ⊎ Contains [] s → IsPlace s
-        at (inl e) = subst IsPlace e l
-        at (inr h) = absurd (in_none s h)
-
-    -- what is reached from the number of a class is the numbers of its subclasses
-    pub reached_is : (c : Term) (start : ℕ) → slice_get (terms n) start ≡ Some c → (b : Term) (i : ℕ) → slice_get (terms n) i ≡ Some b → IsReached (successors_at d) (start ∷ []) i ↔ IsSubclass g b c
-    reached_is c start sc b i sb = (to, from)
-      where
-        from_class : IsReached below (term_at n start ∷ []) (term_at n i) → IsSubclass g b c
-        from_class r = at (in_cases (term_at n start) [] r.0 r.1)
-          where
-            at : (term_at n start ≡ r.0) ⊎ Contains [] r.0 → IsSubclass g b c
-            at (inl e) =
-                let t = walk_turned (IsSuccessor below) Above below_above r.2.0 r.0 (term_at n i) r.2.1 in
-                (t.0, subst (λ u. IsWalk Above t.0 u c) (at_place n i b sb) (subst (λ u. IsWalk Above t.0 (term_at n i) u) (sym e ∙ at_place n start c sc) t.1))
-            at (inr h) = absurd (in_none r.0 h)
-
-        to : IsReached (successors_at d) (start ∷ []) i → IsSubclass g b c
-        to r = from_class (reached_along_within (term_at n) (successors_at d) below IsPlace same_below closed_below (start ∷ []) i (only_start start (place_within n start c sc)) r)
-
-        alone : (z : ℕ) → IsPlace z → term_at n z ≡ term_at n i → z ≡ i
-        alone z l e = one_place_of_term n b z i (there z l ∙ ap (λ u. Some u) (e ∙ at_place n i b sb)) sb
-          where
-            there : (k : ℕ) → IsPlace k → slice_get (terms n) k ≡ Some (term_at n k)
-            there k m = slice_get-get_or (terms n) k _ m
-
-        from : IsSubclass g b c → IsReached (successors_at d) (start ∷ []) i
-        from h =
-            let t = walk_turned Above (IsSuccessor below) above_below h.0 b c h.1 in
-            reached_back_within (term_at n) (successors_at d) below IsPlace same_below closed_below (start ∷ []) i (only_start start (place_within n start c sc)) alone
-            (c, subst (λ u. Contains (u ∷ []) c) (sym (at_place n start c sc)) (in_first c []), (t.0, subst (λ u. IsWalk (IsSuccessor below) t.0 c u) (sym (at_place n i b sb)) t.1))
-
-    -- so the terms of the marked numbers are the subclasses, where all ends of such triples have numbers
-    pub subclasses_are : (c : Term) (start : ℕ) → slice_get (terms n) start ≡ Some c → IsSetOf (λ x. IsEndOf g rdfs.sub_class_of x ⊎ (x ≡ c)) n
-        → (marks : List Bool) → ((i : ℕ) → i < length d → IsTrue (slice_index_or marks i false) ↔ IsReached (successors_at d) (start ∷ []) i)
-        → (b : Term) → ((i : ℕ) × (slice_get (terms n) i ≡ Some b) × IsTrue (slice_index_or marks i false)) ↔ IsSubclass g b c
-    subclasses_are c start sc all marks exact b = (to, from)
-      where
-        mark : (i : ℕ) → slice_get (terms n) i ≡ Some b → IsTrue (slice_index_or marks i false) ↔ IsReached (successors_at d) (start ∷ []) i
-        mark i e = let l = place_within n i b e in exact i (omega (arith, l, len))
-
-        to : (i : ℕ) × (slice_get (terms n) i ≡ Some b) × IsTrue (slice_index_or marks i false) → IsSubclass g b c
-        to m = (reached_is c start sc b m.0 m.1).0 ((mark m.0 m.1).0 m.2)
-
-        numbered : (w : List Term) → IsWalk Above w b c → IsEndOf g rdfs.sub_class_of b ⊎ (b ≡ c)
-        numbered [] h = inr h
-        numbered (z ∷ zs) h = inl (z, inl h.0)
-
-        from : IsSubclass g b c → (i : ℕ) × (slice_get (terms n) i ≡ Some b) × IsTrue (slice_index_or marks i false)
-        from h =
-            let p = place_of_term n b ((all b).1 (numbered h.0 h.1)) in
-            (p.0, p.1, (mark p.0 p.1).1 ((reached_is c start sc b p.0 p.1).1 h))
+  -- what is reached along this relation from a class is its subclasses
+  pub subclasses_are : (c b : Term) → IsReached below (c ∷ []) b ↔ IsSubclass g b c
+  subclasses_are c b = (to, λ h. (c, in_first c [], walk_turned Above (IsSuccessor below) above_below h.0 b c h.1))
+    where
+      to : IsReached below (c ∷ []) b → IsSubclass g b c
+      to r = at (in_cases c [] r.0 r.1)
+        where
+          at : (c ≡ r.0) ⊎ Contains [] r.0 → IsSubclass g b c
+          at (inl e) = let t = walk_turned (IsSuccessor below) Above below_above r.2.0 r.0 b r.2.1 in (t.0, subst (IsWalk Above t.0 b) (sym e) t.1)
+          at (inr h) = absurd (in_none r.0 h)
 
   -- the test by steps
   leads_walk : (k : ℕ) (b c : Term) → leads_to k g b c ≡ true → (w : List Term) × IsWalk Above w b c
@@ -200,41 +139,3 @@ module _ (g : Graph) where
     λ h. let r = flat_map_in (λ b. subjects g rdf.type_ b) (terms n) x h in (r.0, (subjects_are g rdf.type_ r.0 x).0 r.2, (all r.0).0 ((terms_is n r.0).1 r.1)),
     λ h. in_flat_map (λ b. subjects g rdf.type_ b) (terms n) h.0 x ((terms_is n h.0).0 ((all h.0).1 h.2)) ((subjects_are g rdf.type_ h.0 x).1 h.1),
   )
-
--- the terms of the marked numbers below k
-abbrev pub AreMarked : Nodes → List Bool → ℕ → List Term → Type 0
-AreMarked n marks k ts = (x : Term) → Contains ts x ↔ ((i : ℕ) × (i < k) × (slice_get (terms n) i ≡ Some x) × IsTrue (slice_index_or marks i false))
-
-module _ (n : Nodes) (marks : List Bool) where
-  pub marked_start : AreMarked n marks 0 []
-  marked_start x = (λ c. absurd (in_none x c), λ m. let l = m.1 in absurd (omega (arith, l)))
-
-  pub marked_push : (k : ℕ) (ts : List Term) (t : Term) → AreMarked n marks k ts → slice_get (terms n) k ≡ Some t → slice_index_or marks k false ≡ true → AreMarked n marks (k + 1) (ts ++ t ∷ [])
-  marked_push k ts t h e m x = (λ c. to (Contains-append_cases ts (t ∷ []) x c), from)
-    where
-      to : Contains ts x ⊎ Contains (t ∷ []) x → (i : ℕ) × (i < k + 1) × (slice_get (terms n) i ≡ Some x) × IsTrue (slice_index_or marks i false)
-      to (inl c) = let r = (h x).0 c in let l = r.1 in (r.0, omega (arith, l), r.2, r.3)
-      to (inr c) = one (in_cases t [] x c)
-        where
-          one : (t ≡ x) ⊎ Contains [] x → (i : ℕ) × (i < k + 1) × (slice_get (terms n) i ≡ Some x) × IsTrue (slice_index_or marks i false)
-          one (inl s) = (k, omega arith, e ∙ ap (λ z. Some z) s, m)
-          one (inr d) = absurd (in_none x d)
-
-      from : (i : ℕ) × (i < k + 1) × (slice_get (terms n) i ≡ Some x) × IsTrue (slice_index_or marks i false) → Contains (ts ++ t ∷ []) x
-      from r = at (cases_lt r.0 k)
-        where
-          at : (r.0 < k) ⊎ (k ≤ r.0) → Contains (ts ++ t ∷ []) x
-          at (inl l) = Contains-append_left ts (t ∷ []) x ((h x).1 (r.0, l, r.2, r.3))
-          at (inr l) =
-              let m = r.1 in
-              let same : r.0 ≡ k = omega (arith, l, m) in
-              let both : Some t ≡ Some x = sym e ∙ ap (slice_get (terms n)) (sym same) ∙ r.2 in
-              let equal : t ≡ x = cc in
-              subst (Contains (ts ++ t ∷ [])) equal (Contains-push ts t)
-
-  pub marked_skip : (k : ℕ) (ts : List Term) → AreMarked n marks k ts → slice_index_or marks k false ≡ false → AreMarked n marks (k + 1) ts
-  marked_skip k ts h m x = (λ c. let r = (h x).0 c in let l = r.1 in (r.0, omega (arith, l), r.2, r.3), λ r. at r (cases_lt r.0 k))
-    where
-      at : (r : (i : ℕ) × (i < k + 1) × (slice_get (terms n) i ≡ Some x) × IsTrue (slice_index_or marks i false)) → (r.0 < k) ⊎ (k ≤ r.0) → Contains ts x
-      at r (inl l) = (h x).1 (r.0, l, r.2, r.3)
-      at r (inr l) = let b = r.1 in let same : r.0 ≡ k = omega (arith, l, b) in absurd (false≢true (sym m ∙ ap (λ i. slice_index_or marks i false) (sym same) ∙ r.3))

@@ -1,5 +1,4 @@
-ghost use Rattle.std.specs.Prelude.{◌≡◌, ◌↔◌, ℕ, IsTrue, IfOk, Some, false};
-ghost use Rattle.std.specs.Prelude.{length, slice_get, slice_index_or, Contains};
+ghost use Rattle.std.specs.Prelude.{◌≡◌, IsTrue, IfOk, Some, length};
 ghost use Rattle.rdf_terms.specs.declared.term.Term.{Term as T};
 ghost use Rattle.rdf_terms.specs.Members.{IsSetOf, InGraph};
 ghost use Rattle.rdf_terms.specs.Nodes.{terms, has_term};
@@ -8,9 +7,9 @@ ghost use Rattle.rdf_navigation.specs.Values.{subjects};
 ghost use Rattle.rdf_navigation.specs.Instances.{IsSubclass, IsInstance, is_instance};
 ghost use Rattle.rdf_navigation.specs.Numbers.{IsNumbered};
 
-use crate::numbers::{ends_of, push_node};
+use crate::numbers::{ends_of, push_node, reached_terms};
 use crate::property::{push_subjects, subjects};
-use digraph::{Digraph, reached};
+use digraph::Digraph;
 use rdf_terms::vocab::{rdf, rdfs};
 use rdf_terms::{Graph, Nodes, OutOfMemory, Term, Terms};
 use std::alloc::Global;
@@ -29,30 +28,6 @@ fn subclass_digraph(alloc: Global, graph: &Graph, classes: &Nodes) -> Result<Dig
     Ok(digraph)
 }
 
-fn is_marked(marks: &[bool], place: usize) -> bool
-    ensures { result ≡ slice_index_or marks.now place false }
-{
-    if place < marks.len() {
-        marks[place]
-    } else {
-        false
-    }
-}
-
-/// Copies of the terms that have a mark.
-fn marked_terms(alloc: Global, nodes: &Nodes, marks: &[bool]) -> Result<Terms, OutOfMemory>
-    ensures { IfOk result (λ ts. (x : T) → Contains ts x
-        ↔ ((i : ℕ) × (slice_get (terms nodes.now) i ≡ Some x) × IsTrue (slice_index_or marks.now i false))) }
-{
-    let mut marked = Terms::new(alloc);
-    'places: for place in 0..nodes.len() {
-        if is_marked(marks, place) {
-            marked.push(nodes.nth_term(place).copy(alloc)?)?;
-        }
-    }
-    Ok(marked)
-}
-
 /// The class and all its SHACL subclasses (SHACL 2017, section 1.1): the terms from which a chain of
 /// `rdfs:subClassOf` triples leads to it. Each class is looked at once, also where chains go round.
 pub fn subclasses_of(alloc: Global, graph: &Graph, class: &Term) -> Result<Nodes, OutOfMemory>
@@ -60,14 +35,9 @@ pub fn subclasses_of(alloc: Global, graph: &Graph, class: &Term) -> Result<Nodes
 {
     let classes = ends_of(alloc, graph, rdfs::SUB_CLASS_OF, class)?;
     let digraph = subclass_digraph(alloc, graph, &classes)?;
-    match classes.index_of_term(class) {
-        Some(start) => {
-            let marks = reached(alloc, &digraph, &[start])?;
-            let subclasses = marked_terms(alloc, &classes, marks.as_slice())?;
-            Nodes::from_terms(alloc, subclasses)
-        }
-        None => unreachable!(),
-    }
+    let mut starts = Terms::new(alloc);
+    starts.push(class.copy(alloc)?)?;
+    reached_terms(alloc, &classes, &digraph, starts.as_slice())
 }
 
 /// All SHACL instances of the class (SHACL 2017, section 1.1): the terms that have it or one of its

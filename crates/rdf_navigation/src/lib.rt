@@ -10,7 +10,7 @@ mod property;
 
 pub use instances::{instances_of, subclasses_of};
 pub use lists::Lists;
-pub use numbers::push_node;
+pub use numbers::{push_node, reached_terms};
 pub use property::{
     count_values, has_subjects, has_value, has_values, only_value, push_subjects, subjects,
     value_of, values,

@@ -1,12 +1,13 @@
 ghost use Rattle.std.specs.Prelude.{◌≡◌, ◌<◌, ◌+◌, ◌++◌, ◌⊎◌, ◌↔◌, ℕ, List, Option};
-ghost use Rattle.std.specs.Prelude.{IsTrue, OnOk, IfOk, length, map, Contains};
+ghost use Rattle.std.specs.Prelude.{IsTrue, OnOk, IfOk, length, map, Contains, false, slice_get, slice_index_or};
 ghost use Rattle.std.specs.Option.{ForSome};
 ghost use Rattle.rdf_terms.specs.declared.term.Term.{Term as T};
 ghost use Rattle.rdf_terms.specs.Nodes.{terms, has_term};
 ghost use Rattle.rdf_terms.specs.Members.{IsSetOf};
+ghost use Rattle.digraph.specs.Reach.{IsReached};
 ghost use Rattle.rdf_navigation.specs.Numbers.{term_at, IsNumbered, ends_by, IsEndOf};
 
-use digraph::Digraph;
+use digraph::{Digraph, reached};
 use rdf_terms::{Graph, Nodes, OutOfMemory, Term, Terms, Triple};
 use std::alloc::Global;
 
@@ -78,4 +79,48 @@ pub fn push_node(
         }
         None => digraph.push(None),
     }
+}
+
+fn is_marked(marks: &[bool], place: usize) -> bool
+    ensures { result ≡ slice_index_or marks.now place false }
+{
+    if place < marks.len() {
+        marks[place]
+    } else {
+        false
+    }
+}
+
+/// Copies of the terms that have a mark.
+fn marked_terms(alloc: Global, nodes: &Nodes, marks: &[bool]) -> Result<Terms, OutOfMemory>
+    ensures { IfOk result (λ ts. (x : T) → Contains ts x
+        ↔ ((i : ℕ) × (slice_get (terms nodes.now) i ≡ Some x) × IsTrue (slice_index_or marks.now i false))) }
+{
+    let mut marked = Terms::new(alloc);
+    'places: for place in 0..nodes.len() {
+        if is_marked(marks, place) {
+            marked.push(nodes.nth_term(place).copy(alloc)?)?;
+        }
+    }
+    Ok(marked)
+}
+
+/// The terms to which walks lead from the starts, which are reached themselves, along a relation between
+/// terms of the set that the graph has as one between their places. Each term is looked at once, also
+/// where walks go round.
+pub fn reached_terms(
+    alloc: Global,
+    nodes: &Nodes,
+    digraph: &Digraph,
+    starts: &[Term],
+) -> Result<Nodes, OutOfMemory>
+    requires len { length digraph.now ≡ length (terms nodes.now) }
+    requires starts { (t : T) → Contains starts.now t → IsTrue (has_term nodes.now t) }
+    ensures { IfOk result (λ n. (next : T → Option (List T)) → IsNumbered next nodes.now digraph.now
+        → IsSetOf (IsReached next starts.now) n) }
+{
+    let places = places_of(alloc, nodes, starts)?;
+    let marks = reached(alloc, digraph, places.as_slice())?;
+    let terms = marked_terms(alloc, nodes, marks.as_slice())?;
+    Nodes::from_terms(alloc, terms)
 }

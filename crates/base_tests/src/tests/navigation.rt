@@ -1,6 +1,6 @@
 use crate::making::{graph, iri};
 use digraph::{Digraph, depths, first_on_circle, reached};
-use rdf_navigation::{Lists, instances_of};
+use rdf_navigation::{Lists, instances_of, subclasses_of, subjects, values};
 use rdf_terms::vocab::{rdf, rdfs};
 use rdf_terms::{Graph, OutOfMemory};
 use std::alloc::Global;
@@ -52,6 +52,17 @@ fn count_members(alloc: Global, graph: &Graph, node: &str) -> Result<Option<usiz
     Ok(members.map(|members| members.as_slice().len()))
 }
 
+/// The same of lists whose cells are blank nodes.
+fn count_blank_members(
+    alloc: Global,
+    graph: &Graph,
+    node: &str,
+) -> Result<Option<usize>, OutOfMemory> {
+    let lists = Lists::new(alloc, graph)?;
+    let members = lists.blank_members(alloc, &iri(alloc, node)?)?;
+    Ok(members.map(|members| members.as_slice().len()))
+}
+
 #[test]
 fn lists_end_at_nil(rt: HostRuntime) -> Result<(), Fail> {
     let alloc = rt.alloc();
@@ -74,6 +85,9 @@ fn lists_end_at_nil(rt: HostRuntime) -> Result<(), Fail> {
         ("b:x", None),
     ] {
         assert_eq!(rt; count_members(alloc, &graph, node)?, count, "{node}");
+    }
+    for (node, count) in [("b:1", None), (rdf::NIL, Some(0))] {
+        assert_eq!(rt; count_blank_members(alloc, &graph, node)?, count, "{node}");
     }
     Ok(())
 }
@@ -98,5 +112,38 @@ fn instances_follow_subclasses(rt: HostRuntime) -> Result<(), Fail> {
             "{class}"
         );
     }
+    Ok(())
+}
+
+/// How many values and how many subjects there are of a property.
+fn count_values_and_subjects(
+    alloc: Global,
+    graph: &Graph,
+    subject: &str,
+    object: &str,
+) -> Result<(usize, usize), OutOfMemory> {
+    let values = values(alloc, graph, &iri(alloc, subject)?, "b:p")?;
+    let subjects = subjects(alloc, graph, "b:p", &iri(alloc, object)?)?;
+    Ok((values.as_slice().len(), subjects.as_slice().len()))
+}
+
+#[test]
+fn values_and_subjects_are_copied(rt: HostRuntime) -> Result<(), Fail> {
+    let alloc = rt.alloc();
+    let graph = graph(
+        alloc,
+        &[
+            ["b:1", "b:p", "b:x"],
+            ["b:1", "b:p", "b:y"],
+            ["b:1", "b:q", "b:x"],
+            ["b:2", "b:p", "b:x"],
+            ["b:3", "b:p", "b:x"],
+        ],
+    )?;
+    assert_eq!(rt;
+        count_values_and_subjects(alloc, &graph, "b:1", "b:x")?,
+        (2, 3)
+    );
+    assert_eq!(rt; subclasses_of(alloc, &graph, &iri(alloc, "b:1")?)?.len(), 1);
     Ok(())
 }

@@ -1,8 +1,9 @@
-use Rattle.std.proofs.Common.{◌↔◌, IsTrue, slice_index_or, false, ◌∷◌, [], inl, sym, subst}
+use Rattle.std.proofs.Common.{◌≡◌, List, ◌∷◌, [], ◌++◌, inl, ap, ◌∙◌, subst}
 use Rattle.std.proofs.lemmas.Result.{IfOk-weaker}
-use Rattle.digraph.specs.Digraph.{successors_at}
+use Rattle.rdf_terms.specs.declared.term.Term.{Term}
+use Rattle.rdf_terms.specs.Members.{IsSetOf}
 use Rattle.digraph.specs.Reach.{IsReached}
-use Rattle.rdf_navigation.proofs.InstanceLaws.{subclasses_are}
+use Rattle.rdf_navigation.proofs.InstanceLaws.{below, subclasses_are}
 use Rattle.rdf_navigation.proofs.instances.subclasses_of.Goals as goal
 
 pub subclass_digraph-requires : goal.subclass_digraph-requires
@@ -10,10 +11,9 @@ subclass_digraph-requires c = λ b d h. (c.in_ok-classes.ensures b).1 (inl (d, i
 
 pub returns : goal.returns
 returns c =
-    let d = c.in_ok-digraph.digraph in
-    let start = c.in-Some.start in
-    let marks = c.as_slice.result.now in
-    let are = subclasses_are c.args.graph.now c.in_ok-classes.classes d c.in_ok-digraph.ensures.len c.in_ok-digraph.ensures.numbered c.args.class.now start c.in-Some.ensures.some c.in_ok-classes.ensures marks
-    (λ i l. subst (λ ms. IsTrue (slice_index_or ms i false) ↔ IsReached (successors_at d) (start ∷ []) i) (sym c.as_slice.ensures.value) (c.in_ok-marks-in-Some.ensures.exact i l)) in
-    let listed = c.in_ok-subclasses-in-Some.ensures in
-    IfOk-weaker c.from_terms.result _ _ (λ n e b. (λ h. (are b).0 ((listed b).0 ((e b).0 h)), λ h. (e b).1 ((listed b).1 ((are b).1 h)))) c.from_terms.ensures.exact
+    let g = c.args.graph.now in
+    let class = c.args.class.now in
+    let one : c.as_slice.result.now ≡ class ∷ [] = c.as_slice.ensures ∙ c.in_ok-push.ensures.ok ∙ ap (λ (ts : List Term). ts ++ c.in_ok-copy.field-0 ∷ []) c.new-starts.ensures ∙ ap (λ (u : Term). u ∷ []) c.in_ok-copy.ensures in
+    IfOk-weaker c.reached_terms.result _ _ (λ n e b.
+    let r = subst (λ (ts : List Term). IsSetOf (IsReached (below g) ts) n) one (e (below g) c.in_ok-digraph.ensures.numbered) b in
+    (λ h. (subclasses_are g class b).0 (r.0 h), λ h. r.1 ((subclasses_are g class b).1 h))) c.reached_terms.ensures

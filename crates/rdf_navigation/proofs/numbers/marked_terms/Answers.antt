@@ -1,8 +1,8 @@
 use Rattle.std.proofs.Common.{◌≡◌, ◌+◌, ◌++◌, ◌∷◌, [], sym, ap, ◌∙◌, subst, arith}
 use Rattle.rdf_navigation.proofs.NumberLaws.{place_within}
-use Rattle.rdf_navigation.proofs.InstanceLaws.{AreMarked, marked_start, marked_push, marked_skip}
-use Rattle.rdf_navigation.proofs.instances.marked_terms.Goals as goal
-use Rattle.rdf_navigation.proofs.instances.marked_terms.Goals.{then-is_marked+in_ok-copy+in_ok-push, else-is_marked}
+use Rattle.rdf_navigation.proofs.ReachLaws.{AreMarked, marked_start, marked_push, marked_skip}
+use Rattle.rdf_navigation.proofs.numbers.marked_terms.Goals as goal
+use Rattle.rdf_navigation.proofs.numbers.marked_terms.Goals.{then-is_marked+in_ok-copy+in_ok-push, else-is_marked}
 
 pub places-init : goal.places-init
 places-init c = subst (AreMarked c.args.nodes.now c.args.marks.now 0) (sym c.new-marked.ensures) (marked_start c.args.nodes.now c.args.marks.now)

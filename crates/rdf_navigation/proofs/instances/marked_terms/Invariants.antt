@@ -1,5 +1,0 @@
-use Rattle.rdf_navigation.proofs.InstanceLaws.{AreMarked}
-use Rattle.rdf_navigation.proofs.instances.marked_terms.Given as goal
-
-abbrev pub invariant-places : goal.invariant-places
-invariant-places l = AreMarked l.nodes l.marks l.place l.marked
