@@ -1,0 +1,12 @@
+pub mod Automata
+pub mod FollowLaws
+pub mod Found
+pub mod FoundNodes
+pub mod GrowthLaws
+pub mod InstancePath
+pub mod LinkLaws
+pub mod ReachedLaws
+pub mod Searches
+pub mod VisitEquality
+pub mod VisitLaws
+pub mod Walks

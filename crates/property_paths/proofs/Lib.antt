@@ -1,0 +1,3 @@
+pub mod NumberedWalks
+pub mod PartLaws
+pub mod PathLaws

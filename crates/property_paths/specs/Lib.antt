@@ -1,0 +1,3 @@
+-- Property paths in shapes graphs. What contracts say of them.
+pub mod PathTable
+pub mod Paths

@@ -1,0 +1,9 @@
+pub mod Firsts
+pub mod ListedDepths
+pub mod PathNodeLaws
+pub mod ProfileLaws
+pub mod RankLaws
+pub mod ReferenceLaws
+pub mod RuleLaws
+pub mod SiblingLaws
+pub mod TableLaws

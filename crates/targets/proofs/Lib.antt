@@ -1,0 +1,3 @@
+pub mod SelectionLaws
+pub mod TargetLaws
+pub mod ValueLaws
