@@ -1,0 +1,5 @@
+pub mod FirstLaws
+pub mod LanguageLaws
+pub mod OrderLaws
+pub mod PathLaws
+pub mod RangeLaws

@@ -1,0 +1,4 @@
+pub mod GoodNodes
+pub mod LanguageRanges
+pub mod FirstTerms
+pub mod RangePlaces
