@@ -7,6 +7,7 @@ pub mod InstancePath
 pub mod LinkLaws
 pub mod ReachedLaws
 pub mod Searches
+pub mod SubjectPlaces
 pub mod VisitEquality
 pub mod VisitLaws
 pub mod Walks

@@ -5,6 +5,8 @@ ghost use Rattle.rdf_navigation.specs.Numbers.{term_at};
 ghost use Rattle.path_eval.specs.Numbered.{terms_at, AreNumbers};
 ghost use Rattle.std.specs.List.{list_any};
 ghost use Rattle.rdf_terms.specs.Nodes.{terms, has_term};
+ghost use Rattle.rdf_terms.specs.Graph.{triples_of as triples_of_graph};
+ghost use Rattle.rdf_terms.specs.Vocab.Rdf.{type_ as rdf_type};
 ghost use Rattle.rdf_navigation.specs.Instances.{IsInstance, is_instance};
 
 use crate::{Direction, NumberedGraph, reached_from};
@@ -25,6 +27,14 @@ fn has_object(nodes: &Nodes, triple: &Triple) -> bool
     ensures { result ≡ has_term nodes.now triple.now.object }
 {
     nodes.index_of_term(&triple.object).is_some()
+}
+
+/// Whether the node has a term of the set as a value of `rdf:type`. It takes no memory.
+pub fn has_type_among(graph: &Graph, node: &Term, classes: &Nodes) -> bool
+    ensures { result ≡ list_any (λ t. has_term classes.now t.object)
+        (triples_of_graph graph.now node.now rdf_type) }
+{
+    any_object_in(classes, graph.triples_of(node, rdf::TYPE))
 }
 
 /// Whether the node is a SHACL instance of the class (SHACL 2017, section 1.1): it has the class or one

@@ -12,6 +12,6 @@ mod visits;
 
 pub use direction::Direction;
 pub use evaluation::reached;
-pub use instances::{instances_from, is_instance};
+pub use instances::{has_type_among, instances_from, is_instance};
 pub use numbered::NumberedGraph;
 pub use search::reached_from;

@@ -1,7 +1,7 @@
-ghost use Rattle.std.specs.Prelude.{◌≡◌, ◌<◌, IsTrue, IfOk, IfSome, IfNone, length, slice_get, Some};
+ghost use Rattle.std.specs.Prelude.{◌≡◌, ◌<◌, ◌≤◌, IsTrue, IfOk, IfSome, IfNone, length, slice_get, Some};
 ghost use Rattle.rdf_terms.specs.declared.term.Term.{Term as T};
 ghost use Rattle.rdf_terms.specs.Statement.{Statement};
-ghost use Rattle.rdf_terms.specs.Graph.{triples, has, empty};
+ghost use Rattle.rdf_terms.specs.Graph.{triples, has, empty, ArePlacesOf};
 ghost use Rattle.rdf_terms.specs.Members.{InGraph, IsListOf};
 ghost use Rattle.rdf_terms.specs.Nodes.{terms, has_term, nodes_of as nodes_of_graphs, IsNodeOf};
 ghost use Rattle.rdf_navigation.specs.Numbers.{term_at};
@@ -49,6 +49,28 @@ fn number_of(nodes: &Nodes, term: &Term) -> usize
     }
 }
 
+/// Whether the term has this number in the set.
+fn is_at(nodes: &Nodes, number: usize, term: &Term) -> bool
+    ensures { IsTrue result → slice_get (terms nodes.now) number ≡ Some term.now }
+{
+    number < nodes.len() && *nodes.nth_term(number) == *term
+}
+
+/// The number of a term of the set. It is looked for where the term before it was, and right after that.
+fn number_after(nodes: &Nodes, before: usize, term: &Term) -> usize
+    requires before { before ≤ length (terms nodes.now) }
+    requires term { IsTrue (has_term nodes.now term.now) }
+    ensures { slice_get (terms nodes.now) result ≡ Some term.now }
+{
+    if is_at(nodes, before, term) {
+        return before;
+    }
+    if before < nodes.len() && is_at(nodes, before + 1, term) {
+        return before + 1;
+    }
+    number_of(nodes, term)
+}
+
 /// The numbers of the subjects and of the objects of the triples, in their order.
 fn number_ends(
     alloc: Global,
@@ -61,8 +83,10 @@ fn number_ends(
 {
     let mut subjects = Vec::with_capacity(alloc, graph.len())?;
     let mut objects = Vec::with_capacity(alloc, graph.len())?;
+    let mut subject = 0;
     'triples: for triple in graph.as_slice() {
-        subjects.push(number_of(nodes, &triple.subject))?;
+        subject = number_after(nodes, subject, &triple.subject);
+        subjects.push(subject)?;
         objects.push(number_of(nodes, &triple.object))?;
     }
     Ok((subjects, objects))
@@ -122,6 +146,18 @@ impl<'g> NumberedGraph<'g> {
         }
     }
 
+    /// The places of the triples with this subject: the first, and the one after the last. Numbers are
+    /// compared and no terms.
+    fn places_of(&self, subject: usize) -> (usize, usize)
+        requires { subject < length (terms self.now.nodes) }
+        ensures { ArePlacesOf (triples self.now.graph) (term_at self.now.nodes subject) result.0 result.1 }
+    {
+        let subjects = self.subjects.as_slice();
+        let first = subjects.partition_point(|number| *number < subject);
+        let after = subjects.partition_point(|number| *number <= subject);
+        (first, after)
+    }
+
     /// The objects of triples with this subject and this predicate.
     fn objects_of(
         &self,
@@ -135,7 +171,7 @@ impl<'g> NumberedGraph<'g> {
             (λ y. InGraph self.now.graph (term_at self.now.nodes subject) (Term.Iri predicate.now) y)
             (terms_at self.now.nodes v.items)) }
     {
-        let (first, after) = self.graph.places_of(self.nodes.nth_term(subject));
+        let (first, after) = self.places_of(subject);
         let mut found = Vec::new(alloc);
         'places: for place in first..after {
             if let Some(object) = self.link(predicate, Direction::Forward, place) {
@@ -169,7 +205,7 @@ impl<'g> NumberedGraph<'g> {
 
     /// The nodes to which triples with this predicate lead from a node, or backwards from which they
     /// lead there.
-    pub(crate) fn neighbours(
+    pub fn neighbours(
         &self,
         alloc: Global,
         predicate: &str,

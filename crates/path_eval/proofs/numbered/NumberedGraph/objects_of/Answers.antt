@@ -38,15 +38,13 @@ places-preserved c =
 
 pub returns-clause-exact : goal.returns-clause-exact
 returns-clause-exact c =
-    let v = c.self.inside in
     let s = c.args.subject in
     let n = c.args.self.now.nodes in
     let p = Iri c.args.predicate.now in
     let first = c.places_of-first.result.0 in
     let after = c.places_of-first.result.1 in
     let end : c.places.place ≡ after = let a = c.places_of-first.ensures.ordered in omega (arith, c.places-test.false, c.places.auto.place-end, a) in
-    let own : ArePlacesOf (triples v.graph.now) (term_at v.nodes s) first after = subst (λ (t : Term). ArePlacesOf (triples v.graph.now) t first after) (sym (at_place v.nodes s c.nth_term.result.now c.nth_term.ensures)) c.places_of-first.ensures in
-    let places : ArePlacesOf (triples c.args.self.now.graph) (term_at n s) first after = subst (λ (u : Numbered). ArePlacesOf (triples u.graph) (term_at u.nodes s) first after) c.self.view_is own in
+    let places : ArePlacesOf (triples c.args.self.now.graph) (term_at n s) first after = c.places_of-first.ensures in
     list_same (IsLinked (triples c.args.self.now.graph) p Forward (λ i. (first ≤ i) × (i < after))) (λ y. InGraph c.args.self.now.graph (term_at n s) p y) (terms_at n c.places.found.items)
     (λ y. forward_is c.args.self.now.graph p (term_at n s) first after places y)
     (subst (λ (k : ℕ). IsListOf (IsLinked (triples c.args.self.now.graph) p Forward (λ i. (first ≤ i) × (i < k))) (terms_at n c.places.found.items)) end c.places.invariant.linked)
