@@ -1,4 +1,4 @@
-//! Tests of the commands that no worked case can hold.
+//! Tests that no worked case can hold.
 #![tactic(auto)]
 
 #[cfg(test)]

@@ -2,10 +2,17 @@
 use Rattle.std.specs.Prelude.{ℕ, List, [], ◌∷◌, Result, Ok, Err, codes, nat_eq, if◌then◌else◌}
 use Rattle.std.specs.Cmp.Lexicographic.{pointwise}
 use Rattle.command_words.specs.declared.words.Command.{Command}
-use Rattle.command_words.specs.declared.words.Command.TheVariants.{Explain, Apply}
+use Rattle.command_words.specs.declared.words.Command.TheVariants.{Validate, Explain, Apply}
 
--- the command of the words after "explain", or the position of the first wrong word; where a word
+-- the command of the words after "validate", or the position of the first wrong word; where a word
 -- is missing that is the number of words
+abbrev pub validate_of : List (List ℕ) → Result Command ℕ
+validate_of [] = Err 1
+validate_of (shapes ∷ []) = Err 2
+validate_of (shapes ∷ present ∷ []) = Ok (Validate shapes present)
+validate_of (shapes ∷ present ∷ word ∷ words) = Err 3
+
+-- the same of the words after "explain"
 abbrev pub explain_of : List (List ℕ) → Result Command ℕ
 explain_of [] = Err 1
 explain_of (shapes ∷ []) = Err 2
@@ -24,6 +31,7 @@ apply_of (present ∷ document ∷ word ∷ words) = Err 3
 abbrev pub words_of : List (List ℕ) → Result Command ℕ
 words_of [] = Err 0
 words_of (word ∷ words) =
+    if pointwise nat_eq word (codes "validate") then validate_of words else
     if pointwise nat_eq word (codes "explain") then explain_of words else
     if pointwise nat_eq word (codes "apply") then apply_of words else
     Err 0

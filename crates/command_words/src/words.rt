@@ -1,5 +1,5 @@
 ghost use Rattle.std.specs.Prelude.{◌≡◌, map, string_bytes, IfOk, IfErr};
-ghost use Rattle.command_words.specs.Words.{words_of, explain_of, apply_of};
+ghost use Rattle.command_words.specs.Words.{words_of, validate_of, explain_of, apply_of};
 ghost use Rattle.command_words.specs.WordsRefusal.{IsRefusedFor};
 ghost use Rattle.command_words.specs.declared.words.WordsRefusal.TheVariants.{OutOfMemory as NoCommand};
 
@@ -10,6 +10,11 @@ use thiserror::Error;
 /// What the words ask for.
 #[derive(Drop)]
 pub enum Command {
+    /// Report how the data breaks the shapes, by the names of the two documents.
+    Validate {
+        shapes: Text,
+        present: Text,
+    },
     /// Find a minimal pair of additions among the offered triples and deletions among the data, by
     /// the names of the three documents.
     Explain {
@@ -43,7 +48,8 @@ impl From<OutOfMemory> for WordsRefusal {
     }
 }
 
-/// Reads the words after the program's name: `explain SHAPES DATA OFFERED` or `apply DATA DOCUMENT`.
+/// Reads the words after the program's name: `validate SHAPES DATA`, `explain SHAPES DATA OFFERED` or
+/// `apply DATA DOCUMENT`.
 ///
 /// `Word` comes exactly where the words are no command.
 pub fn read_words(alloc: Global, words: &[String]) -> Result<Command, WordsRefusal>
@@ -54,9 +60,26 @@ pub fn read_words(alloc: Global, words: &[String]) -> Result<Command, WordsRefus
         return Err(WordsRefusal::Word { position: 0 });
     };
     match first.as_str() {
+        "validate" => read_validate(alloc, names),
         "explain" => read_explain(alloc, names),
         "apply" => read_apply(alloc, names),
         _ => Err(WordsRefusal::Word { position: 0 }),
+    }
+}
+
+/// Reads the words after `validate`.
+fn read_validate(alloc: Global, names: &[String]) -> Result<Command, WordsRefusal>
+    ensures ok { IfOk result (λ command. validate_of (map string_bytes names.now) ≡ Ok command) }
+    ensures err { IfErr result (λ refusal. IsRefusedFor (validate_of (map string_bytes names.now)) refusal) }
+{
+    match names {
+        [shapes, present] => Ok(Command::Validate {
+            shapes: Text::from_str(alloc, shapes.as_str())?,
+            present: Text::from_str(alloc, present.as_str())?,
+        }),
+        _ => Err(WordsRefusal::Word {
+            position: names.len().min(2) + 1,
+        }),
     }
 }
 

@@ -9,11 +9,15 @@ use Rattle.document_input.specs.declared.refusal.DocumentRefusal.TheVariants.{To
 use Rattle.document_input.specs.declared.refusal.DocumentRefusal.TheVariants.{Line as ClaimLine}
 use Rattle.document_input.specs.declared.refusal.ShapesRefusal.{ShapesRefusal}
 use Rattle.document_input.specs.declared.refusal.ShapesRefusal.TheVariants.{NotReadYet as ShapesNotReadYet}
+use Rattle.document_input.specs.declared.refusal.ShapesRefusal.TheVariants.{Unsupported, IllFormed, Recursive}
+use Rattle.document_input.specs.declared.refusal.ShapesRefusal.TheVariants.{PathTooDeep, ShapeTooDeep}
 use Rattle.document_input.specs.declared.refusal.ClaimRefusal.{ClaimRefusal}
 use Rattle.document_input.specs.declared.refusal.ClaimRefusal.TheVariants.{NoPair, PairOutside}
 use Rattle.document_input.specs.declared.refusal.InputRefusal.{InputRefusal}
 use Rattle.document_input.specs.declared.refusal.InputRefusal.TheVariants.{Graph as OfGraph, Document as OfDocument}
 use Rattle.document_input.specs.declared.refusal.InputRefusal.TheVariants.{Shapes as OfShapes, Claim as OfClaim}
+use Rattle.document_input.specs.declared.refusal.InputRefusal.TheVariants.{Literal}
+use Rattle.ntriples_io.specs.CanonicalText.{term_text}
 
 abbrev pub role_text : Role → List ℕ
 role_text Shapes = codes "SHAPES"
@@ -32,6 +36,11 @@ document_text (ClaimLine number) = codes "line " ++ decimal number
 
 abbrev pub shapes_text : ShapesRefusal → List ℕ
 shapes_text ShapesNotReadYet = codes "not read yet"
+shapes_text (Unsupported predicate) = codes "unsupported " ++ term_text predicate
+shapes_text (IllFormed node rule) = codes "ill formed " ++ term_text node ++ codes " rule " ++ decimal rule
+shapes_text (Recursive shape) = codes "recursive " ++ term_text shape
+shapes_text (PathTooDeep node) = codes "path too deep " ++ term_text node
+shapes_text (ShapeTooDeep shape) = codes "shape too deep " ++ term_text shape
 
 abbrev pub claim_text : ClaimRefusal → List ℕ
 claim_text NoPair = codes "no pair"
@@ -46,3 +55,4 @@ refusal_text (OfGraph role refusal) = blame_text role (graph_text refusal)
 refusal_text (OfDocument refusal) = blame_text Document (document_text refusal)
 refusal_text (OfShapes refusal) = blame_text Shapes (shapes_text refusal)
 refusal_text (OfClaim refusal) = blame_text Document (claim_text refusal)
+refusal_text (Literal literal) = blame_text Data (codes "literal " ++ term_text literal)

@@ -1,6 +1,10 @@
+ghost use Rattle.std.specs.Prelude.{◌≡◌, ◌++◌, IfOk};
+ghost use Rattle.ntriples_io.specs.CanonicalText.{term_text};
+
 use crate::Role;
 use crate::text::bytes_of;
-use rdf_terms::{Bytes, OutOfMemory};
+use ntriples_io::write_term;
+use rdf_terms::{Bytes, OutOfMemory, Term};
 use std::alloc::Global;
 use std::fmt;
 
@@ -28,8 +32,18 @@ pub enum DocumentRefusal {
 /// Why the graph of the shapes is refused.
 #[derive(Debug, PartialEq, Eq, Drop)]
 pub enum ShapesRefusal {
-    /// It has shapes of a part of SHACL that is not read yet.
+    /// It has shapes of a part of SHACL that the command doesn't take yet.
     NotReadYet,
+    /// It has a triple with this predicate, which is of a part of SHACL that is left out.
+    Unsupported { predicate: Term },
+    /// The first ill-formed shape, and the smallest rule on shapes that it breaks.
+    IllFormed { node: Term, rule: u8 },
+    /// This shape refers to itself, over one or more references.
+    Recursive { shape: Term },
+    /// This path, or rest of a sequence, has a depth over 32.
+    PathTooDeep { node: Term },
+    /// This shape has a rank over 128.
+    ShapeTooDeep { shape: Term },
 }
 
 /// Why a claim can't be applied to the data.
@@ -53,6 +67,9 @@ pub enum InputRefusal {
     Shapes(ShapesRefusal),
     /// The claim, read from a document in order.
     Claim(ClaimRefusal),
+    /// A literal of the data or a value of `sh:targetNode`, which a range constraint would have to compare and
+    /// which can't be compared. It is said of the data.
+    Literal(Term),
 }
 
 impl fmt::Display for GraphRefusal {
@@ -84,15 +101,30 @@ impl fmt::Display for DocumentRefusal {
     }
 }
 
-impl fmt::Display for ShapesRefusal {
-    ghost use Rattle.std.specs.Prelude.{Some};
+impl ShapesRefusal {
+    ghost use Rattle.std.specs.Prelude.{◌≡◌, IfOk};
     ghost use Rattle.document_input.specs.Notes.{shapes_text};
 
-    ghost output = { λ refusal. Some (shapes_text refusal) };
-
-    fn fmt<W: fmt::Write>(&self, f: &mut fmt::Formatter<W>) -> fmt::Result {
+    /// How the reason is written in the notes, with the canonical spelling of the term at fault.
+    fn text(&self, alloc: Global) -> Result<Bytes, OutOfMemory>
+        ensures { IfOk result (λ b. b ≡ shapes_text self.now) }
+    {
         match self {
-            ShapesRefusal::NotReadYet => f.write_str("not read yet"),
+            ShapesRefusal::NotReadYet => bytes_of(alloc, "not read yet"),
+            ShapesRefusal::Unsupported { predicate } => words_of_term(
+                alloc,
+                "unsupported ",
+                predicate,
+            ),
+            ShapesRefusal::IllFormed { node, rule } => {
+                let mut text = words_of_term(alloc, "ill formed ", node)?;
+                let rule = format!(in alloc; " rule {rule}")?;
+                text.append(rule.as_bytes())?;
+                Ok(text)
+            }
+            ShapesRefusal::Recursive { shape } => words_of_term(alloc, "recursive ", shape),
+            ShapesRefusal::PathTooDeep { node } => words_of_term(alloc, "path too deep ", node),
+            ShapesRefusal::ShapeTooDeep { shape } => words_of_term(alloc, "shape too deep ", shape),
         }
     }
 }
@@ -109,6 +141,15 @@ impl fmt::Display for ClaimRefusal {
             ClaimRefusal::PairOutside { line } => write!(f, "pair outside line {line}"),
         }
     }
+}
+
+/// The words, and behind them the canonical spelling of the term.
+fn words_of_term(alloc: Global, words: &str, term: &Term) -> Result<Bytes, OutOfMemory>
+    ensures { IfOk result (λ b. b ≡ words.now ++ term_text term.now) }
+{
+    let mut text = bytes_of(alloc, words)?;
+    text.append(write_term(alloc, term)?.as_slice())?;
+    Ok(text)
 }
 
 impl InputRefusal {
@@ -129,13 +170,15 @@ impl InputRefusal {
                 bytes_of(alloc, text.as_str())
             }
             InputRefusal::Shapes(refusal) => {
-                let text = format!(in alloc; "SHAPES: {refusal}")?;
-                bytes_of(alloc, text.as_str())
+                let mut text = bytes_of(alloc, "SHAPES: ")?;
+                text.append(refusal.text(alloc)?.as_slice())?;
+                Ok(text)
             }
             InputRefusal::Claim(refusal) => {
                 let text = format!(in alloc; "DOCUMENT: {refusal}")?;
                 bytes_of(alloc, text.as_str())
             }
+            InputRefusal::Literal(literal) => words_of_term(alloc, "DATA: literal ", literal),
         }
     }
 }

@@ -1,12 +1,21 @@
 -- What was made of the documents is the answer of the command, and an error of the input is named in the notes.
-use Rattle.std.proofs.Common.{◌≡◌, List, ℕ, ◌<◌, Option, None, Some, Result, Ok, Err, refl, sym, ap, subst, inl, inr}
+use Rattle.std.proofs.Common.{IsTrue, ◌≡◌, ◌≢◌, ◌↔◌, List, [], ◌∷◌, ℕ, ◌<◌, Option, None, Some, Result, Ok, Err, refl, sym, ap, subst, inl, inr}
 use Rattle.rdf_terms.specs.declared.term.Scope.TheVariants.{Data as OfData, Shapes as OfShapes}
-use Rattle.rdf_terms.specs.Graph.{Graph}
+use Rattle.rdf_terms.specs.Graph.{Graph, empty}
+use Rattle.rdf_terms.specs.declared.term.Term.{Term}
 use Rattle.ntriples_io.specs.RoundTrip.{HasScope}
 use Rattle.ntriples_io.specs.Text.{AreLawful}
 use Rattle.ntriples_io.proofs.LawfulText.{text_lawful}
 use Rattle.ntriples_io.proofs.ScopedText.{text_has_scope}
 use Rattle.shelf_io.specs.Held.{Held}
+use Rattle.std.specs.List.Sorted.{IsStrictlySortedBy}
+use Rattle.rdf_terms.proofs.Members.{in_none}
+use Rattle.shapes_profile.specs.Profile.{IsInProfile}
+use Rattle.shapes_graph.specs.Conformance.{Conforms}
+use Rattle.shapes_graph.specs.OrderLiterals.{IsCompared, is_out_of_reach}
+use Rattle.shapes_graph.specs.Results.{IsResult, HasNoResult}
+use Rattle.core_constraints.specs.declared.result_rows.ResultRow.{ResultRow}
+use Rattle.core_constraints.specs.Rows.{row_cmp, AreRowsOf}
 use Rattle.thin_repair.specs.Answer.{IsAnswer as IsFound}
 use Rattle.thin_repair.specs.ThinShapes.{IsThinShapes}
 use Rattle.thin_repair.specs.declared.explanation.Explanation.{Explanation}
@@ -17,7 +26,7 @@ use Rattle.proof_documents.specs.Document.{Document as Claim, IsWellFormed}
 use Rattle.proof_documents.specs.Applying.{Applies, Edits}
 use Rattle.proof_documents.proofs.Applied.{edited_lawful}
 use Rattle.command_words.specs.declared.words.Command.{Command}
-use Rattle.command_words.specs.declared.words.Command.TheVariants.{Explain, Apply}
+use Rattle.command_words.specs.declared.words.Command.TheVariants.{Validate, Explain, Apply}
 use Rattle.document_input.specs.declared.error.InputError.{InputError}
 use Rattle.document_input.specs.declared.error.InputError.TheVariants.{Unread, Refused, OutOfMemory}
 use Rattle.document_input.specs.declared.refusal.ShapesRefusal.TheVariants.{NotReadYet}
@@ -33,8 +42,8 @@ use Rattle.explain_cli.specs.declared.report.Report.{Report}
 use Rattle.explain_cli.specs.declared.status.Status.TheVariants.{Done, No, TooMany}
 use Rattle.explain_cli.specs.Answer.{IsAnswerIn, CommandMeans}
 use Rattle.explain_cli.specs.ClaimText.{claim_of_pair, claim_of_none}
-use Rattle.explain_cli.specs.Commands.{IsErrorOf, IsErrorReport, AnswersCommand, Makes, ReportsExplanation, IsEditedReport, ReportsEdited}
-use Rattle.explain_cli.specs.Input.{Contents, documents_of, Names, names, Graphs, AreHeld, AreApplied, IsUnfitFor, RefusesDocument, RefusesIn}
+use Rattle.explain_cli.specs.Commands.{IsErrorOf, IsErrorReport, AnswersCommand, Makes, ReportsRows, IsValidationReport, ReportsValidation, ReportsExplanation, IsEditedReport, ReportsEdited}
+use Rattle.explain_cli.specs.Input.{Contents, documents_of, AreGraphsOf, AreComparable, IsUnfitInput, Names, names, Graphs, AreHeld, AreApplied, IsUnfitFor, RefusesDocument, RefusesIn}
 use Rattle.explain_cli.specs.Notes.{too_many_line}
 use Rattle.explain_cli.specs.Reports.{answer, note}
 
@@ -64,6 +73,53 @@ pub error_answers : (command : Command) (shelf : Change ShelfTold) (error : Inpu
 error_answers command shelf (Unread role) report cause texts = inr (inr (record { role = role; first = cause; texts = texts }))
 error_answers command shelf (Refused refusal) report cause texts = inr (inl (record { refusal = refusal; first = cause; texts = texts }))
 error_answers command shelf OutOfMemory report cause texts = absurd texts
+
+-- ---- validate
+
+-- what was found of shapes that were read of a graph
+pub validation_of : (s t g o : Graph) (rows : List ResultRow) (report : Report) → (t ≡ s) × IsInProfile s → o ≡ empty → ((y : Term) → IsCompared t g o y → ¬ (IsTrue (is_out_of_reach y))) → AreRowsOf (IsResult t g) rows → IsStrictlySortedBy row_cmp rows
+    → (rows ≢ []) ↔ ¬ (Conforms t g) → ReportsRows rows report → IsValidationReport s g report
+validation_of s t g o rows report is none comparable exact sorted some texts =
+    subst (λ (u : Graph). IsValidationReport u g report) is.0
+    (record {
+      profile = subst IsInProfile (sym is.0) is.1;
+      comparable = subst (λ (h : Graph). (y : Term) → IsCompared t g h y → ¬ (IsTrue (is_out_of_reach y))) none comparable;
+      rows = rows;
+      exact = exact;
+      sorted = sorted;
+      some = some;
+      texts = texts;
+    })
+
+-- the graphs are those of the documents, where the shelf tells
+pub record ReadsTwo (held : Held) (s p : List ℕ) (t g : Graph) : Type 0 where
+  pub shapes : HoldsIn (IsGraph OfShapes s t) held s
+  pub present : HoldsIn (IsGraph OfData p g) held p
+
+are_validated : (held : Contents) (s p : List ℕ) (t g : Graph) → ReadsTwo (Some held) s p t g → AreGraphsOf s p held t g
+are_validated held s p t g reads = record { shapes = reads.shapes; present = reads.present }
+
+no_rows : (t g : Graph) → AreRowsOf (IsResult t g) [] → HasNoResult t g
+no_rows t g exact h = in_none h.0 ((exact h.0).1 h.1)
+
+validated : (s p : List ℕ) (held : Held) (t g : Graph) (report : Report) (rows : List ResultRow) → ReadsTwo held s p t g → IsInProfile t → AreComparable t g → AreRowsOf (IsResult t g) rows → IsStrictlySortedBy row_cmp rows → (rows ≢ []) ↔ ¬ (Conforms t g) → ReportsRows rows report
+    → IsAnswerIn (Validate s p) held report
+validated s p None t g report [] reads profile comparable exact sorted some texts = inl (ap (λ (r : Report). r.status) texts)
+validated s p None t g report (r ∷ rows) reads profile comparable exact sorted some texts = inr (inl (ap (λ (r : Report). r.status) texts))
+validated s p (Some held) t g report [] reads profile comparable exact sorted some texts =
+    inl (record { shapes = t; present = g; input = record { documents = are_validated held s p t g reads; profile = profile; comparable = comparable }; none = no_rows t g exact; conforming = λ broken. some.1 broken refl; texts = texts })
+validated s p (Some held) t g report (r ∷ rows) reads profile comparable exact sorted some texts =
+    inr (record { shapes = t; present = g; input = record { documents = are_validated held s p t g reads; profile = profile; comparable = comparable }; rows = r ∷ rows; some = λ e. cc; exact = exact; sorted = sorted; violated = some.0 (λ e. cc); texts = texts })
+
+unfit_input : (s p : List ℕ) (held : Held) (t g : Graph) (refusal : InputRefusal) → ReadsTwo held s p t g → IsUnfitInput t g refusal → RefusesIn (Validate s p) held refusal
+unfit_input s p None t g refusal reads unfit = tt
+unfit_input s p (Some held) t g refusal reads unfit = inr (record { shapes = t; present = g; documents = are_validated held s p t g reads; unfit = unfit })
+
+pub validates : (s p : List ℕ) (shelf : Change ShelfTold) (t g : Graph) (result : Result Report InputError) → ReadsTwo shelf.before.held s p t g → ReportsValidation t g result → AnswersCommand (Validate s p) shelf result
+validates s p shelf t g (Ok report) reads is = validated s p shelf.before.held t g report is.rows reads is.profile is.comparable is.exact is.sorted is.some is.texts
+validates s p shelf t g (Err (Unread role)) reads is = absurd is
+validates s p shelf t g (Err (Refused refusal)) reads is = unfit_input s p shelf.before.held t g refusal reads is
+validates s p shelf t g (Err OutOfMemory) reads is = tt
 
 -- ---- explain
 

@@ -2,7 +2,7 @@
 use Rattle.std.proofs.Common.{◌≡◌, ◌≢◌, ℕ, ◌⊎◌, inl, inr, List, [], ◌∷◌, None, Some, Result, Ok, sym, ap, ◌∙◌, subst}
 use Rattle.shelf_io.specs.Held.{Held}
 use Rattle.command_words.specs.declared.words.Command.{Command}
-use Rattle.command_words.specs.declared.words.Command.TheVariants.{Explain, Apply}
+use Rattle.command_words.specs.declared.words.Command.TheVariants.{Validate, Explain, Apply}
 use Rattle.command_words.specs.Words.{words_of}
 use Rattle.document_input.specs.Told.{Change, ShelfTold}
 use Rattle.explain_cli.specs.declared.report.Report.{Report}
@@ -21,11 +21,16 @@ abbrev pub own : List Status
 own = Done ∷ No ∷ TooMany ∷ []
 
 pub own_statuses : (command : Command) (status : Status) → IsOneOf (statuses_of command) status → IsOneOf own status
+own_statuses (Validate s p) status (inl e) = inl e
+own_statuses (Validate s p) status (inr (inl e)) = inr (inl e)
+own_statuses (Validate s p) status (inr (inr e)) = absurd e
 own_statuses (Explain s p o) status is = is
 own_statuses (Apply p d) status (inl e) = inl e
 own_statuses (Apply p d) status (inr e) = absurd e
 
 pub answer_status : (command : Command) (held : Contents) (report : Report) → IsAnswer command held report → IsOneOf (statuses_of command) report.status
+answer_status (Validate s p) held report (inl none) = inl (ap (λ (r : Report). r.status) none.texts)
+answer_status (Validate s p) held report (inr some) = inr (inl (ap (λ (r : Report). r.status) some.texts))
 answer_status (Explain s p o) held report (inl pair) = inl (ap (λ (r : Report). r.status) pair.texts)
 answer_status (Explain s p o) held report (inr (inl none)) = inr (inl (ap (λ (r : Report). r.status) none.texts))
 answer_status (Explain s p o) held report (inr (inr many)) = inr (inr (inl (ap (λ (r : Report). r.status) many.texts)))
@@ -33,6 +38,8 @@ answer_status (Apply p d) held report written = inl (ap (λ (r : Report). r.stat
 
 -- an answer shows that the input is in order
 pub answer_ready : (command : Command) (held : Contents) (report : Report) → IsAnswer command held report → IsReady command held
+answer_ready (Validate s p) held report (inl none) = (none.shapes, none.present, none.input)
+answer_ready (Validate s p) held report (inr some) = (some.shapes, some.present, some.input)
 answer_ready (Explain s p o) held report (inl pair) = (pair.graphs, pair.input)
 answer_ready (Explain s p o) held report (inr (inl none)) = (none.graphs, none.input)
 answer_ready (Explain s p o) held report (inr (inr many)) = (many.graphs, many.input)

@@ -1,12 +1,13 @@
 -- When each status comes, by how the call ends.
 use Rattle.std.proofs.Common.{◌≡◌, ℕ, ◌<◌, ◌≤◌, ◌⊎◌, inl, inr, List, [], ◌∷◌, Some, Result, Ok, Err, IsErr, refl, sym, ap, ◌∙◌, subst, arith}
-use Rattle.rdf_terms.specs.Graph.{without}
+use Rattle.rdf_terms.specs.Graph.{Graph, without}
+use Rattle.shapes_graph.specs.Conformance as shacl
 use Rattle.shelf_io.specs.Held.{Held}
 use Rattle.thin_repair.specs.Answer.{candidate_count}
 use Rattle.thin_repair.specs.Conformance.{Conforms}
 use Rattle.repair_problem.specs.Repair.{NoneExplains}
 use Rattle.command_words.specs.declared.words.Command.{Command}
-use Rattle.command_words.specs.declared.words.Command.TheVariants.{Explain, Apply}
+use Rattle.command_words.specs.declared.words.Command.TheVariants.{Validate, Explain, Apply}
 use Rattle.command_words.specs.Words.{words_of}
 use Rattle.document_input.specs.Told.{Change, ShelfTold}
 use Rattle.document_input.proofs.Errors.{none_unread}
@@ -14,11 +15,11 @@ use Rattle.explain_cli.specs.declared.report.Report.{Report}
 use Rattle.explain_cli.specs.declared.status.Status.{Status}
 use Rattle.explain_cli.specs.declared.status.Status.TheVariants.{No, Usage, Input, Write, Memory, TooMany, Spent}
 use Rattle.explain_cli.specs.Answer.{IsOneOf, statuses_of, IsAnswerIn, ClaimsPair, CommandMeans, MeansFor}
-use Rattle.explain_cli.specs.Causes.{cut_short, IsTooMuch, HasNoPair, CommandCauses, InputCauses, IsUndisturbed, Causes}
+use Rattle.explain_cli.specs.Causes.{cut_short, HasViolation, IsTooMuch, HasNoPair, CommandCauses, InputCauses, IsUndisturbed, Causes}
 use Rattle.explain_cli.specs.Input.{Contents, documents_of, Names, names, Graphs, IsInput, Refuses, RefusesIn}
 use Rattle.explain_cli.specs.Outcome.{SinkTold, Outcome}
 use Rattle.explain_cli.proofs.Endings.{own, own_statuses, answer_status, answer_ready, not_own, not_cut, not_answered, EndedAs, ended, Settled, settled}
-use Rattle.explain_cli.proofs.Ready.{one_input, ready_unrefused}
+use Rattle.explain_cli.proofs.Ready.{one_input, one_validated, ready_unrefused}
 
 -- ---- the words
 
@@ -51,6 +52,26 @@ input_always : (command : Command) (held : Contents) (status : Status) → Settl
 input_always command held status (inl refused) refuses = inl refused.0
 input_always command held status (inr (inl end)) refuses = absurd (ready_unrefused command held (answer_ready command held end.0 end.2) refuses)
 input_always command held status (inr (inr cut)) refuses = inr cut
+
+-- ---- the status of `validate`
+
+violated_only : (s p : List ℕ) (held : Contents) (status : Status) → Settled (Validate s p) held status → status ≡ No → HasViolation s p held
+violated_only s p held status (inl refused) e = let other = refused.0 in absurd cc
+violated_only s p held status (inr (inl end)) e =
+    let is : No ≡ end.0.status = sym e ∙ end.1 in
+    elim end.2 [ inl none ↦ let other = ap (λ (r : Report). r.status) none.texts in absurd cc | inr some ↦ (some.shapes, some.present, some.input, some.violated) ]
+violated_only s p held status (inr (inr cut)) e = absurd (not_cut No (λ d. cc) (λ d. cc) (λ d. cc) (subst (IsOneOf cut_short) e cut))
+
+violated_always : (s p : List ℕ) (held : Contents) (status : Status) → Settled (Validate s p) held status → HasViolation s p held → (status ≡ No) ⊎ IsOneOf cut_short status
+violated_always s p held status (inl refused) violated = absurd (ready_unrefused (Validate s p) held (violated.0, violated.1, violated.2) refused.1)
+violated_always s p held status (inr (inl end)) violated =
+    elim end.2 [
+      | inl none ↦
+          let same = one_validated s p held violated.0 violated.1 none.shapes none.present violated.2.documents none.input.documents in
+          absurd (none.conforming (subst (λ (t : Graph). ¬ (shacl.Conforms t none.present)) same.0 (subst (λ (g : Graph). ¬ (shacl.Conforms violated.0 g)) same.1 violated.3)))
+      | inr some ↦ inl (end.1 ∙ ap (λ (r : Report). r.status) some.texts)
+    ]
+violated_always s p held status (inr (inr cut)) violated = inr cut
 
 -- ---- the statuses of `explain`
 
@@ -112,6 +133,7 @@ none_always s p o held status (inr (inl end)) none =
 none_always s p o held status (inr (inr cut)) none = inr cut
 
 own_causes : (command : Command) (held : Contents) (status : Status) → Settled command held status → CommandCauses command held status
+own_causes (Validate s p) held status end = record { only = violated_only s p held status end; always = violated_always s p held status end }
 own_causes (Explain s p o) held status end =
     (record { only = many_only s p o held status end; always = many_always s p o held status end }, record { only = none_only s p o held status end; always = none_always s p o held status end })
 own_causes (Apply p d) held status end = tt

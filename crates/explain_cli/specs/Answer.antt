@@ -1,10 +1,16 @@
 -- The right answers to the words, over what is held under the names. A new command adds a line to `statuses_of`
 -- and one to `IsAnswer`, with the records that the latter names.
-use Rattle.std.specs.Prelude.{◌≡◌, ℕ, ◌<◌, ◌≤◌, ◌⊎◌, List, [], ◌∷◌, None, Some, Result, Ok, Err}
+use Rattle.std.specs.Prelude.{◌≡◌, ◌≢◌, ℕ, ◌<◌, ◌≤◌, ◌⊎◌, List, [], ◌∷◌, None, Some, Result, Ok, Err}
 use Rattle.rdf_terms.specs.Graph.{Graph, without}
 use Rattle.rdf_terms.specs.declared.term.Scope.TheVariants.{Data as OfData}
 use Rattle.ntriples_io.specs.CanonicalText.{graph_text}
 use Rattle.ntriples_io.specs.Text.{NtText}
+use Rattle.std.specs.List.Sorted.{IsStrictlySortedBy}
+use Rattle.shapes_graph.specs.Conformance as shacl
+use Rattle.shapes_graph.specs.Results.{IsResult, HasNoResult}
+use Rattle.core_constraints.specs.declared.result_rows.ResultRow.{ResultRow}
+use Rattle.core_constraints.specs.Rows.{row_cmp, AreRowsOf}
+use Rattle.report_writer.specs.Report.{report_text}
 use Rattle.thin_repair.specs.Answer.{candidate_count}
 use Rattle.thin_repair.specs.Conformance.{Conforms}
 use Rattle.repair_problem.specs.Repair.{Minimal, NoneExplains}
@@ -12,7 +18,7 @@ use Rattle.proof_documents.specs.Document.{Document as Claim}
 use Rattle.proof_documents.specs.Applying.{Edits}
 use Rattle.shelf_io.specs.Held.{Held}
 use Rattle.command_words.specs.declared.words.Command.{Command}
-use Rattle.command_words.specs.declared.words.Command.TheVariants.{Explain, Apply}
+use Rattle.command_words.specs.declared.words.Command.TheVariants.{Validate, Explain, Apply}
 use Rattle.command_words.specs.Words.{words_of}
 use Rattle.document_input.specs.declared.role.Role.{Role}
 use Rattle.document_input.specs.declared.refusal.InputRefusal.{InputRefusal}
@@ -25,6 +31,7 @@ use Rattle.explain_cli.specs.declared.status.Status.{Status}
 use Rattle.explain_cli.specs.declared.status.Status.TheVariants.{Done, No, Usage, Input, Read, TooMany}
 use Rattle.explain_cli.specs.ClaimText.{claim_of_pair, claim_of_none}
 use Rattle.explain_cli.specs.Input.{Contents, documents_of, Names, names, Graphs, IsInput, AreApplied, RefusesIn}
+use Rattle.explain_cli.specs.Input.{IsValidationInput}
 use Rattle.explain_cli.specs.Notes.{usage_line, input_line, read_line, too_many_line}
 use Rattle.explain_cli.specs.Reports.{answer, note}
 
@@ -35,8 +42,33 @@ IsOneOf (one ∷ others) status = (status ≡ one) ⊎ IsOneOf others status
 
 -- the statuses that a command answers with where nothing fails and its input is not refused
 abbrev pub statuses_of : Command → List Status
+statuses_of (Validate shapes present) = Done ∷ No ∷ []
 statuses_of (Explain shapes present offered) = Done ∷ No ∷ TooMany ∷ []
 statuses_of (Apply present document) = Done ∷ []
+
+-- ---- validate
+
+-- out is the report without a result: the data has none, and it isn't so that it does not conform
+pub record ReportsNone (shapes_name data_name : List ℕ) (held : Contents) (report : Report) : Type 0 where
+  pub shapes : Graph
+  pub present : Graph
+  pub input : IsValidationInput shapes_name data_name held shapes present
+  pub none : HasNoResult shapes present
+  pub conforming : ¬ (¬ (shacl.Conforms shapes present))
+  pub texts : report ≡ answer Done (report_text [])
+
+-- out is the report of exactly the results of the data, of which there are some, sorted by their fields, and the data
+-- does not conform
+pub record ReportsResults (shapes_name data_name : List ℕ) (held : Contents) (report : Report) : Type 0 where
+  pub shapes : Graph
+  pub present : Graph
+  pub input : IsValidationInput shapes_name data_name held shapes present
+  pub rows : List ResultRow
+  pub some : rows ≢ []
+  pub exact : AreRowsOf (IsResult shapes present) rows
+  pub sorted : IsStrictlySortedBy row_cmp rows
+  pub violated : ¬ (shacl.Conforms shapes present)
+  pub texts : report ≡ answer No (report_text rows)
 
 -- ---- explain
 
@@ -81,6 +113,8 @@ pub record WritesEdited (data_name claim_name : List ℕ) (held : Contents) (rep
 
 -- the answers of a command to an input that is not refused
 abbrev pub IsAnswer : Command → Contents → Report → Type 0
+IsAnswer (Validate shapes present) held report =
+    ReportsNone shapes present held report ⊎ ReportsResults shapes present held report
 IsAnswer (Explain shapes present offered) held report =
     let n = names shapes present offered in
     ClaimsPair n held report ⊎ ClaimsNone n held report ⊎ HasTooMany n held report

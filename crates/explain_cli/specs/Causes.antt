@@ -1,12 +1,13 @@
 -- When each status comes: what is true where a call ends with it, and where it has to.
 use Rattle.std.specs.Prelude.{◌≡◌, ◌≢◌, ℕ, ◌<◌, ◌≤◌, ◌⊎◌, List, [], ◌∷◌, Some, Ok, IsErr}
 use Rattle.std.specs.List.{All}
-use Rattle.rdf_terms.specs.Graph.{without}
+use Rattle.rdf_terms.specs.Graph.{Graph, without}
+use Rattle.shapes_graph.specs.Conformance as shacl
 use Rattle.thin_repair.specs.Answer.{candidate_count}
 use Rattle.thin_repair.specs.Conformance.{Conforms}
 use Rattle.repair_problem.specs.Repair.{NoneExplains}
 use Rattle.command_words.specs.declared.words.Command.{Command}
-use Rattle.command_words.specs.declared.words.Command.TheVariants.{Explain, Apply}
+use Rattle.command_words.specs.declared.words.Command.TheVariants.{Validate, Explain, Apply}
 use Rattle.command_words.specs.Words.{words_of}
 use Rattle.document_input.specs.NamedDocument.{NamedDocument}
 use Rattle.document_input.specs.Reading.{RoseFor}
@@ -14,7 +15,7 @@ use Rattle.document_input.specs.Told.{Change, ShelfTold}
 use Rattle.explain_cli.specs.declared.status.Status.{Status}
 use Rattle.explain_cli.specs.declared.status.Status.TheVariants.{No, Usage, Input, Read, Write, Memory, TooMany, Spent}
 use Rattle.explain_cli.specs.Answer.{IsOneOf, statuses_of}
-use Rattle.explain_cli.specs.Input.{Contents, documents_of, Names, names, Graphs, IsInput, Refuses}
+use Rattle.explain_cli.specs.Input.{Contents, documents_of, IsValidationInput, Names, names, Graphs, IsInput, Refuses}
 use Rattle.explain_cli.specs.Outcome.{SinkTold, RoseIn}
 
 -- a status comes only where the fact holds, and always where it does, or one of those comes that it yields to
@@ -26,6 +27,11 @@ pub record ComesExactly (status : Status) (yields : List Status) (P : Type 0) (e
 -- memory could not be had. Each of these has its own cause.
 abbrev pub cut_short : List Status
 cut_short = Read ∷ Write ∷ Memory ∷ []
+
+-- the input is in order, and the data does not conform to the shapes
+abbrev pub HasViolation : List ℕ → List ℕ → Contents → Type 0
+HasViolation shapes_name data_name held =
+    (s : Graph) × (g : Graph) × IsValidationInput shapes_name data_name held s g × ¬ (shacl.Conforms s g)
 
 -- the input is in order, and there are more candidates than are tried
 abbrev pub IsTooMuch : Names → Contents → Type 0
@@ -39,6 +45,8 @@ HasNoPair names held =
 
 -- the statuses of a command's own over documents whose bytes are told
 abbrev pub CommandCauses : Command → Contents → Status → Type 0
+CommandCauses (Validate shapes present) held status =
+    ComesExactly No cut_short (HasViolation shapes present held) status
 CommandCauses (Explain shapes present offered) held status =
     let n = names shapes present offered in
     ComesExactly TooMany cut_short (IsTooMuch n held) status × ComesExactly No cut_short (HasNoPair n held) status

@@ -1,5 +1,6 @@
 -- What the private functions of the commands say of their results.
-use Rattle.std.specs.Prelude.{◌≡◌, Result, Ok, Err, MatchResult}
+use Rattle.std.specs.Prelude.{◌≡◌, ◌≢◌, ◌↔◌, List, [], ◌∷◌, Result, Ok, Err, MatchResult}
+use Rattle.std.specs.List.Sorted.{IsStrictlySortedBy}
 use Rattle.rdf_terms.specs.Graph.{Graph}
 use Rattle.rdf_terms.specs.declared.term.Scope.TheVariants.{Data as OfData}
 use Rattle.ntriples_io.specs.CanonicalText.{graph_text}
@@ -8,6 +9,12 @@ use Rattle.ntriples_io.specs.Text.{NtText, AreLawful}
 use Rattle.proof_documents.specs.declared.refusal.ApplyRefusal.{ApplyRefusal}
 use Rattle.proof_documents.specs.declared.refusal.ApplyRefusal.TheVariants.{NoPair as ClaimsNoPair, OutsideData}
 use Rattle.proof_documents.specs.declared.refusal.ApplyRefusal.TheVariants.{OutOfMemory as NoMemory}
+use Rattle.shapes_profile.specs.Profile.{IsInProfile}
+use Rattle.shapes_graph.specs.Conformance.{Conforms}
+use Rattle.shapes_graph.specs.Results.{IsResult}
+use Rattle.core_constraints.specs.declared.result_rows.ResultRow.{ResultRow}
+use Rattle.core_constraints.specs.Rows.{row_cmp, AreRowsOf}
+use Rattle.report_writer.specs.Report.{report_text}
 use Rattle.thin_repair.specs.declared.explanation.Explanation.{Explanation}
 use Rattle.thin_repair.specs.declared.explanation.Explanation.TheVariants.{NotThin, TooMany as More, Pair, NoPair}
 use Rattle.command_words.specs.declared.words.Command.{Command}
@@ -19,10 +26,11 @@ use Rattle.document_input.specs.declared.refusal.InputRefusal.TheVariants.{Shape
 use Rattle.document_input.specs.Reading.{IsErrorIn}
 use Rattle.document_input.specs.Told.{Change, ShelfTold}
 use Rattle.explain_cli.specs.declared.report.Report.{Report}
+use Rattle.explain_cli.specs.declared.status.Status.{Status}
 use Rattle.explain_cli.specs.declared.status.Status.TheVariants.{Done, No, Input, Read, TooMany}
 use Rattle.explain_cli.specs.Answer.{IsAnswerIn}
 use Rattle.explain_cli.specs.ClaimText.{claim_of_pair, claim_of_none}
-use Rattle.explain_cli.specs.Input.{documents_of, RefusesIn}
+use Rattle.explain_cli.specs.Input.{documents_of, RefusesIn, AreComparable, IsOutside, IsUnfitInput}
 use Rattle.explain_cli.specs.Notes.{input_line, read_line, too_many_line}
 use Rattle.explain_cli.specs.Reports.{answer, note}
 
@@ -40,6 +48,40 @@ AnswersCommand command shelf result =
 -- a report of that kind, unless memory could not be had
 abbrev pub Makes : (Report → Type 0) → Result Report InputError → Type 0
 Makes P result = MatchResult result P (λ error. error ≡ OutOfMemory)
+
+-- why no shapes were read of a graph
+abbrev pub IsShapesError : Graph → InputError → Type 0
+IsShapesError s (Unread role) = ⊥
+IsShapesError s (Refused (OfTheShapes reason)) = IsOutside s reason
+IsShapesError s (Refused _) = ⊥
+IsShapesError s OutOfMemory = Unit {0}
+
+-- the status of a report with these rows
+abbrev pub status_of_rows : List ResultRow → Status
+status_of_rows [] = Done
+status_of_rows (r ∷ rows) = No
+
+abbrev pub ReportsRows : List ResultRow → Report → Type 0
+ReportsRows rows report = report ≡ answer (status_of_rows rows) (report_text rows)
+
+-- the report of the results of a data graph
+pub record IsValidationReport (s g : Graph) (report : Report) : Type 0 where
+  pub profile : IsInProfile s
+  pub comparable : AreComparable s g
+  pub rows : List ResultRow
+  pub exact : AreRowsOf (IsResult s g) rows
+  pub sorted : IsStrictlySortedBy row_cmp rows
+  pub some : (rows ≢ []) ↔ ¬ (Conforms s g)
+  pub texts : ReportsRows rows report
+
+-- why a data graph was not validated
+abbrev pub IsValidationError : Graph → Graph → InputError → Type 0
+IsValidationError s g (Unread role) = ⊥
+IsValidationError s g (Refused refusal) = IsUnfitInput s g refusal
+IsValidationError s g OutOfMemory = Unit {0}
+
+abbrev pub ReportsValidation : Graph → Graph → Result Report InputError → Type 0
+ReportsValidation s g result = MatchResult result (IsValidationReport s g) (IsValidationError s g)
 
 -- the report of what was found of the input of `explain`
 abbrev pub ReportsExplanation : Explanation → Result Report InputError → Type 0

@@ -1,20 +1,28 @@
 -- The input of a command: which documents its words name, what they are together, and what is refused.
-use Rattle.std.specs.Prelude.{◌≡◌, ◌≢◌, ℕ, ◌⊎◌, List, [], ◌∷◌, Option, None, Some}
-use Rattle.rdf_terms.specs.Graph.{Graph}
+use Rattle.std.specs.Prelude.{◌≡◌, ◌≢◌, ℕ, ◌⊎◌, IsTrue, List, [], ◌∷◌, Option, None, Some}
+use Rattle.rdf_terms.specs.Graph.{Graph, empty}
 use Rattle.rdf_terms.specs.declared.term.Scope.TheVariants.{Data as OfData, Shapes as OfShapes}
 use Rattle.proof_lines.specs.declared.proof.Claim.TheVariants.{Pair as ClaimsPair}
 use Rattle.proof_documents.specs.Document.{Document as Claim}
 use Rattle.proof_documents.specs.Applying.{IsUnfit}
 use Rattle.shelf_io.specs.Held.{Held}
+use Rattle.rdf_terms.specs.declared.term.Term.{Term}
+use Rattle.shapes_profile.specs.declared.refusals.ShapeRefusal.{ShapeRefusal}
+use Rattle.shapes_profile.specs.declared.refusals.ShapeRefusal.TheVariants as faults
+use Rattle.shapes_profile.specs.Profile.{IsInProfile, IsFault}
+use Rattle.shapes_graph.specs.OrderLiterals.{IsCompared, is_out_of_reach, IsOrderLiteral}
 use Rattle.thin_repair.specs.ThinShapes.{IsThinShapes}
 use Rattle.command_words.specs.declared.words.Command.{Command}
-use Rattle.command_words.specs.declared.words.Command.TheVariants.{Explain, Apply}
+use Rattle.command_words.specs.declared.words.Command.TheVariants.{Validate, Explain, Apply}
 use Rattle.document_input.specs.declared.role.Role.TheVariants.{Shapes, Data, Offered}
-use Rattle.document_input.specs.declared.refusal.ShapesRefusal.TheVariants.{NotReadYet}
+use Rattle.document_input.specs.declared.refusal.ShapesRefusal.{ShapesRefusal}
+use Rattle.document_input.specs.declared.refusal.ShapesRefusal.TheVariants.{NotReadYet, Unsupported, IllFormed}
+use Rattle.document_input.specs.declared.refusal.ShapesRefusal.TheVariants.{Recursive, PathTooDeep, ShapeTooDeep}
 use Rattle.document_input.specs.declared.refusal.ClaimRefusal.{ClaimRefusal}
 use Rattle.document_input.specs.declared.refusal.ClaimRefusal.TheVariants.{NoPair, PairOutside}
 use Rattle.document_input.specs.declared.refusal.InputRefusal.{InputRefusal}
 use Rattle.document_input.specs.declared.refusal.InputRefusal.TheVariants.{Shapes as OfTheShapes, Claim as OfTheClaim}
+use Rattle.document_input.specs.declared.refusal.InputRefusal.TheVariants.{Literal as OfALiteral}
 use Rattle.document_input.specs.NamedDocument.{NamedDocument, name_of, IsGraph, IsClaim, IsRefused}
 use Rattle.document_input.specs.NamedDocument.NamedDocument.{GraphDocument, ClaimDocument}
 use Rattle.document_input.specs.Reading.{Holds, HoldsIn, FirstIn}
@@ -25,9 +33,53 @@ Contents = List ℕ → Option (List ℕ)
 
 -- the documents of a command, in the order of its words
 abbrev pub documents_of : Command → List NamedDocument
+documents_of (Validate shapes present) = GraphDocument Shapes shapes ∷ GraphDocument Data present ∷ []
 documents_of (Explain shapes present offered) =
     GraphDocument Shapes shapes ∷ GraphDocument Data present ∷ GraphDocument Offered offered ∷ []
 documents_of (Apply present document) = GraphDocument Data present ∷ ClaimDocument document ∷ []
+
+-- ---- validate
+
+-- the graphs are those of the documents, which have blank nodes of their own
+pub record AreGraphsOf (shapes_name data_name : List ℕ) (held : Contents) (s g : Graph) : Type 0 where
+  pub shapes : Holds (IsGraph OfShapes shapes_name s) (held shapes_name)
+  pub present : Holds (IsGraph OfData data_name g) (held data_name)
+
+-- no literal that a range constraint would have to compare is out of reach
+abbrev pub AreComparable : Graph → Graph → Type 0
+AreComparable s g = (y : Term) → IsCompared s g empty y → ¬ (IsTrue (is_out_of_reach y))
+
+-- the graphs are those of the documents, the shapes are in the profile, and the literals can be compared
+pub record IsValidationInput (shapes_name data_name : List ℕ) (held : Contents) (s g : Graph) : Type 0 where
+  pub documents : AreGraphsOf shapes_name data_name held s g
+  pub profile : IsInProfile s
+  pub comparable : AreComparable s g
+
+-- the refusal names this cause why a graph is not in the profile
+abbrev pub NamesFault : ShapeRefusal → ShapesRefusal → Type 0
+NamesFault (faults.Unsupported p) reason = reason ≡ Unsupported p
+NamesFault (faults.IllFormed x rule) reason = reason ≡ IllFormed x rule
+NamesFault (faults.Recursive x) reason = reason ≡ Recursive x
+NamesFault (faults.PathTooDeep x) reason = reason ≡ PathTooDeep x
+NamesFault (faults.ShapeTooDeep x) reason = reason ≡ ShapeTooDeep x
+NamesFault faults.OutOfMemory reason = ⊥
+
+-- the first cause why the graph is not in the profile
+abbrev pub IsOutside : Graph → ShapesRefusal → Type 0
+IsOutside s reason = (f : ShapeRefusal) × IsFault s f × NamesFault f reason
+
+-- the graphs can't be validated: first where the shapes are not in the profile, and then for a literal
+abbrev pub IsUnfitInput : Graph → Graph → InputRefusal → Type 0
+IsUnfitInput s g (OfTheShapes reason) = IsOutside s reason
+IsUnfitInput s g (OfALiteral y) = IsInProfile s × IsOrderLiteral s g empty y
+IsUnfitInput s g _ = ⊥
+
+-- both documents are in order, and their graphs can't be validated
+pub record RefusesValidation (shapes_name data_name : List ℕ) (held : Contents) (refusal : InputRefusal) : Type 0 where
+  pub shapes : Graph
+  pub present : Graph
+  pub documents : AreGraphsOf shapes_name data_name held shapes present
+  pub unfit : IsUnfitInput shapes present refusal
 
 -- ---- explain
 
@@ -52,12 +104,12 @@ pub record AreHeld (names : Names) (held : Contents) (g : Graphs) : Type 0 where
   pub present : Holds (IsGraph OfData names.present g.present) (held names.present)
   pub offered : Holds (IsGraph OfData names.offered g.offered) (held names.offered)
 
--- the graphs are those of the documents, and the shapes are in the profile
+-- the graphs are those of the documents, and the shapes are thin
 pub record IsInput (names : Names) (held : Contents) (g : Graphs) : Type 0 where
   pub documents : AreHeld names held g
   pub profile : IsThinShapes g.shapes
 
--- all documents are in order, and the shapes are not in the profile
+-- all documents are in order, and the shapes are not thin
 pub record RefusesShapes (names : Names) (held : Contents) (refusal : InputRefusal) : Type 0 where
   pub graphs : Graphs
   pub documents : AreHeld names held graphs
@@ -94,6 +146,7 @@ RefusesDocument documents held refusal =
 
 -- what is refused where all documents of a command are in order
 abbrev pub RefusesBehind : Command → Contents → InputRefusal → Type 0
+RefusesBehind (Validate shapes present) held refusal = RefusesValidation shapes present held refusal
 RefusesBehind (Explain shapes present offered) held refusal = RefusesShapes (names shapes present offered) held refusal
 RefusesBehind (Apply present document) held refusal = RefusesClaim present document held refusal
 

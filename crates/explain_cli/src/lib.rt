@@ -8,6 +8,7 @@ mod explain;
 mod report;
 mod status;
 mod top;
+mod validate;
 
 pub use command_words::{Command, WordsRefusal, read_words};
 pub use document_input::{

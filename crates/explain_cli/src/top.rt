@@ -2,12 +2,13 @@ ghost use Rattle.std.specs.Prelude.{◌≡◌, map, string_bytes, IfOk};
 ghost use Rattle.document_input.specs.Told.{during, shelf_told};
 ghost use Rattle.explain_cli.specs.Answer.{CommandMeans, Means};
 ghost use Rattle.explain_cli.specs.Causes.{Causes};
-ghost use Rattle.explain_cli.specs.Commands.{AnswersCommand};
+ghost use Rattle.explain_cli.specs.Commands.{AnswersCommand, IsErrorReport};
 ghost use Rattle.explain_cli.specs.Outcome.{sink_told, Writes, Outcome};
 
 use crate::apply::apply_report;
 use crate::explain::explain_report;
 use crate::report::Report;
+use crate::validate::validate_report;
 use crate::{Command, Status, WordsRefusal, read_words};
 use document_input::{InputError, Reader};
 use rdf_terms::OutOfMemory;
@@ -21,6 +22,9 @@ fn answer_command<H: Shelf>(command: &Command, reader: &mut Reader<H>) -> Result
     ensures same_shelf { reader.new.shelf.ghost_name ≡ reader.old.shelf.ghost_name }
 {
     match command {
+        Command::Validate { shapes, present } => {
+            validate_report(reader, shapes.as_str(), present.as_str())
+        }
         Command::Explain {
             shapes,
             present,
@@ -43,8 +47,15 @@ fn report_command<H: Shelf>(
     let mut reader = Reader::new(alloc, shelf);
     match answer_command(command, &mut reader) {
         Ok(report) => Ok(report),
-        Err(error) => Report::error(alloc, &error),
+        Err(error) => report_error(alloc, error),
     }
+}
+
+/// The report of why a command has no answer.
+fn report_error(alloc: Global, error: InputError) -> Result<Report, OutOfMemory>
+    ensures { IfOk result (IsErrorReport error) }
+{
+    Report::error(alloc, &error)
 }
 
 /// The report of the words, with all its bytes.

@@ -8,7 +8,7 @@ use Rattle.std.proofs.lemmas.List.Concat.{flat_map-append, flat_map-cons}
 use Rattle.std.proofs.lemmas.List.Elements.{All-nil, All-cons, All-head, All-tail, All-weaker, All-contains, All-contains_itself}
 use Rattle.rdf_terms.specs.declared.term.Scope.{Scope}
 use Rattle.rdf_terms.specs.Statement.{Statement}
-use Rattle.rdf_terms.specs.Graph.{Graph, triples, has}
+use Rattle.rdf_terms.specs.Graph.{Graph, triples, has, of_list}
 use Rattle.rdf_terms.specs.TermOrder.{statement_cmp_total, statement_cmp-IsAntisymmetric}
 use Rattle.rdf_terms.proofs.Membership as sets
 use Rattle.rdf_terms.proofs.GraphLaws.{has_listed, listed_of_has}
@@ -109,6 +109,10 @@ pub text_of_graph : (scope : Scope) (g : Graph) → AreTriples g → AreLawful g
 text_of_graph scope g k h s =
     let each = all_in (IsSpellable scope) g (λ t in_graph. record { is_triple = k t in_graph; lawful = h t in_graph; in_scope = s t in_graph }) in
     record { triples = triples g; lines = lines_of_triples scope 1 (triples g) each; is_set = sym (sets.of_list-items statement_cmp_total statement_cmp-IsAntisymmetric g) }
+
+-- lines of triples, in whatever order and however often, mean the graph of these triples
+pub text_of_triples : (scope : Scope) (ts : List Statement) → All (IsSpellable scope) ts → NtText (flat_map line_text ts) scope (of_list ts)
+text_of_triples scope ts each = record { triples = ts; lines = lines_of_triples scope 1 ts each; is_set = refl }
 
 triples_of_text : (scope : Scope) (g other : Graph) → AreLawful g → HasScope scope g → NtText (graph_text g) scope other → AreTriples g
 triples_of_text scope g other h s text =

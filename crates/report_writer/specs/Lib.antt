@@ -1,0 +1,2 @@
+-- The report of validation results: what contracts say of it.
+pub mod Report
