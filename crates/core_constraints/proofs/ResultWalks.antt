@@ -1,5 +1,5 @@
 -- The results of a data graph are those of the constraints of the shapes to which walks lead from its focus nodes.
-use Rattle.std.proofs.Common.{◌≡◌, ◌↔◌, ◌⊎◌, inl, inr, ℕ, zero, suc, ◌+◌, ◌<◌, ◌≤◌, List, [], ◌∷◌, Contains, Option, Some, None, refl, sym, ap, subst, arith}
+use Rattle.std.proofs.Common.{◌≡◌, ◌↔◌, ◌⊎◌, inl, inr, ℕ, zero, suc, ◌<◌, List, [], ◌∷◌, Contains, Option, Some, None, refl, sym, subst, arith}
 use Rattle.digraph.specs.Walk.{IsWalk}
 use Rattle.rdf_terms.specs.declared.term.Term.{Term}
 use Rattle.rdf_terms.specs.Graph.{Graph}
@@ -15,8 +15,8 @@ use Rattle.shapes_graph.specs.Reach.{IsValue}
 use Rattle.shapes_graph.specs.Results.{ResultRow, Frame, IsRowBy, IsRowOf, IsRowIn, IsResult, frame_of}
 use Rattle.shapes_graph.specs.Targets.{IsFocus}
 use Rattle.core_constraints.specs.Levels.{level}
-use Rattle.core_constraints.specs.RowLists.{NoRows}
-use Rattle.core_constraints.specs.Validations.{IsNested, Leads}
+use Rattle.core_constraints.specs.RowLists.{IsNoRow}
+use Rattle.core_constraints.specs.Validations.{Leads}
 use Rattle.core_constraints.proofs.Opened.{IsRanked}
 
 -- only sh:property leads to another shape
@@ -26,7 +26,7 @@ nested_property k u e = cc
 
 module _ (g : Graph) (C : ℕ → Term → Type 0) where
   -- a row of another shape, or an own one
-  row_cases : (N : ℕ → Term → ResultRow → Type 0) (V : Term → Type 0) (x : Term) (fr : Frame) (f : Form) (r : ResultRow) → IsRowBy g C N V x fr f r → IsRowBy g C NoRows V x fr f r ⊎ ((u : ℕ) × (y : Term) × (f ≡ Nested u) × V y × N u y r)
+  row_cases : (N : ℕ → Term → ResultRow → Type 0) (V : Term → Type 0) (x : Term) (fr : Frame) (f : Form) (r : ResultRow) → IsRowBy g C N V x fr f r → IsRowBy g C IsNoRow V x fr f r ⊎ ((u : ℕ) × (y : Term) × (f ≡ Nested u) × V y × N u y r)
   row_cases N V x fr (Every t) r w = inl w
   row_cases N V x fr (Nested u) r w = inr (u, w.0, refl, w.1, w.2)
   row_cases N V x fr (Closing on allowed) r w = inl w
@@ -36,7 +36,7 @@ module _ (g : Graph) (C : ℕ → Term → Type 0) where
   row_cases N V x fr (Same q) r w = inl w
   row_cases N V x fr (Unique on) r w = inl w
 
-  row_own : (N : ℕ → Term → ResultRow → Type 0) (V : Term → Type 0) (x : Term) (fr : Frame) (f : Form) (r : ResultRow) → IsRowBy g C NoRows V x fr f r → IsRowBy g C N V x fr f r
+  row_own : (N : ℕ → Term → ResultRow → Type 0) (V : Term → Type 0) (x : Term) (fr : Frame) (f : Form) (r : ResultRow) → IsRowBy g C IsNoRow V x fr f r → IsRowBy g C N V x fr f r
   row_own N V x fr (Every t) r w = w
   row_own N V x fr (Nested u) r w = absurd w.2
   row_own N V x fr (Closing on allowed) r w = w
@@ -49,7 +49,7 @@ module _ (g : Graph) (C : ℕ → Term → Type 0) where
 module _ (s g : Graph) where
   -- r is a result of one of the shape's own constraints
   abbrev pub IsOwn : ℕ × Term → ResultRow → Type 0
-  IsOwn p r = IsRowOf s g NoRows p.0 p.1 r (constraints_of s p.0)
+  IsOwn p r = IsRowOf s g IsNoRow p.0 p.1 r (constraints_of s p.0)
 
   abbrev pub IsFocused : ℕ × Term → Type 0
   IsFocused p = IsFocus s p.0 g p.1
@@ -58,7 +58,7 @@ module _ (s g : Graph) where
   IsRowOfConstraint N n x r i o = OfConstraint o (λ c. IsRowBy g (λ u y. ConformsTo s g u y) N (IsValue s c.shape g x) x (frame_of s n i x) (form_of c.kind) r)
 
   module _ (ranked : IsRanked s) where
-    own_all : (N : ℕ → Term → ResultRow → Type 0) (n : ℕ) (x : Term) (r : ResultRow) (o : Option (List ℕ)) → constraints_of s n ≡ o → IsRowOf s g NoRows n x r o → IsRowOf s g N n x r o
+    own_all : (N : ℕ → Term → ResultRow → Type 0) (n : ℕ) (x : Term) (r : ResultRow) (o : Option (List ℕ)) → constraints_of s n ≡ o → IsRowOf s g IsNoRow n x r o → IsRowOf s g N n x r o
     own_all N n x r None e w = w
     own_all N n x r (Some is) e w =
         let i = w.1.0 in
@@ -68,11 +68,11 @@ module _ (s g : Graph) where
             i,
             w.1.1,
             subst (IsRowOfConstraint N n x r i) (sym c.1)
-                (row_own g (λ u y. ConformsTo s g u y) N (IsValue s c.0.shape g x) x (frame_of s n i x) (form_of c.0.kind) r (subst (IsRowOfConstraint NoRows n x r i) c.1 w.1.2)),
+                (row_own g (λ u y. ConformsTo s g u y) N (IsValue s c.0.shape g x) x (frame_of s n i x) (form_of c.0.kind) r (subst (IsRowOfConstraint IsNoRow n x r i) c.1 w.1.2)),
           ),
         )
 
-    split : (N : ℕ → Term → ResultRow → Type 0) (n : ℕ) (x : Term) (r : ResultRow) (o : Option (List ℕ)) → constraints_of s n ≡ o → IsRowOf s g N n x r o → IsRowOf s g NoRows n x r o ⊎ ((u : ℕ) × (y : Term) × Leads s g (n, x) (u, y) × N u y r)
+    split : (N : ℕ → Term → ResultRow → Type 0) (n : ℕ) (x : Term) (r : ResultRow) (o : Option (List ℕ)) → constraints_of s n ≡ o → IsRowOf s g N n x r o → IsRowOf s g IsNoRow n x r o ⊎ ((u : ℕ) × (y : Term) × Leads s g (n, x) (u, y) × N u y r)
     split N n x r None e w = absurd w
     split N n x r (Some is) e w = at (row_cases g (λ u y. ConformsTo s g u y) N (IsValue s c.0.shape g x) x (frame_of s n i x) (form_of c.0.kind) r (subst (IsRowOfConstraint N n x r i) c.1 w.1.2))
       where
@@ -82,9 +82,9 @@ module _ (s g : Graph) where
         c : (c : Constraint) × (constraint_at s i ≡ Some c) × (c.shape ≡ n)
         c = ranked.own n i is e w.1.1
 
-        at : IsRowBy g (λ u y. ConformsTo s g u y) NoRows (IsValue s c.0.shape g x) x (frame_of s n i x) (form_of c.0.kind) r ⊎ ((u : ℕ) × (y : Term) × (form_of c.0.kind ≡ Nested u) × IsValue s c.0.shape g x y × N u y r)
-            → IsRowOf s g NoRows n x r (Some is) ⊎ ((u : ℕ) × (y : Term) × Leads s g (n, x) (u, y) × N u y r)
-        at (inl k) = inl (w.0, (i, w.1.1, subst (IsRowOfConstraint NoRows n x r i) (sym c.1) k))
+        at : IsRowBy g (λ u y. ConformsTo s g u y) IsNoRow (IsValue s c.0.shape g x) x (frame_of s n i x) (form_of c.0.kind) r ⊎ ((u : ℕ) × (y : Term) × (form_of c.0.kind ≡ Nested u) × IsValue s c.0.shape g x y × N u y r)
+            → IsRowOf s g IsNoRow n x r (Some is) ⊎ ((u : ℕ) × (y : Term) × Leads s g (n, x) (u, y) × N u y r)
+        at (inl k) = inl (w.0, (i, w.1.1, subst (IsRowOfConstraint IsNoRow n x r i) (sym c.1) k))
         at (inr k) = inr (
           k.0,
           k.1,
@@ -122,7 +122,7 @@ module _ (s g : Graph) where
     deeper (suc d) zero n x r l w = absurd (omega arith)
     deeper (suc d) (suc e) n x r l w = at (λ u y k. deeper d e u y r k) (split (λ u y q. IsRowIn d s g u y q) n x r (constraints_of s n) refl w)
       where
-        at : ((u : ℕ) (y : Term) → level s u < e → IsRowIn d s g u y r → IsRowIn e s g u y r) → IsRowOf s g NoRows n x r (constraints_of s n) ⊎ ((u : ℕ) × (y : Term) × Leads s g (n, x) (u, y) × IsRowIn d s g u y r)
+        at : ((u : ℕ) (y : Term) → level s u < e → IsRowIn d s g u y r → IsRowIn e s g u y r) → IsRowOf s g IsNoRow n x r (constraints_of s n) ⊎ ((u : ℕ) × (y : Term) × Leads s g (n, x) (u, y) × IsRowIn d s g u y r)
             → IsRowOf s g (λ u y q. IsRowIn e s g u y q) n x r (constraints_of s n)
         at more (inl k) = own_all (λ u y q. IsRowIn e s g u y q) n x r (constraints_of s n) refl k
         at more (inr k) = let f = falls n x k.0 k.1 k.2 in lead (λ u y q. IsRowIn e s g u y q) n x k.0 k.1 r k.2 (more k.0 k.1 (omega (arith, f, l)) k.3)
@@ -141,7 +141,7 @@ module _ (s g : Graph) where
     to_walk (suc d) p r h = at (λ q k. to_walk d q r k) (split (λ u y q. IsRowIn d s g u y q) p.0 p.1 r (constraints_of s p.0) refl h)
       where
         at : ((q : ℕ × Term) → IsRowIn d s g q.0 q.1 r → (z : ℕ × Term) × ((w : List (ℕ × Term)) × IsWalk (Leads s g) w q z) × IsOwn z r)
-            → IsRowOf s g NoRows p.0 p.1 r (constraints_of s p.0) ⊎ ((u : ℕ) × (y : Term) × Leads s g (p.0, p.1) (u, y) × IsRowIn d s g u y r)
+            → IsRowOf s g IsNoRow p.0 p.1 r (constraints_of s p.0) ⊎ ((u : ℕ) × (y : Term) × Leads s g (p.0, p.1) (u, y) × IsRowIn d s g u y r)
             → (q : ℕ × Term) × ((w : List (ℕ × Term)) × IsWalk (Leads s g) w p q) × IsOwn q r
         at more (inl k) = (p, ([], refl), k)
         at more (inr k) = let m = more (k.0, k.1) k.3 in (m.0, ((k.0, k.1) ∷ m.1.0, (k.2, m.1.1)), m.2)

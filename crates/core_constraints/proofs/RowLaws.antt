@@ -21,7 +21,8 @@ use Rattle.path_eval.proofs.GrowthLaws.{on_ok}
 use Rattle.core_constraints.specs.declared.result_rows.ResultRow.{ResultRow}
 use Rattle.core_constraints.specs.Decisions.{Says}
 use Rattle.core_constraints.specs.NumberLists.{AreNumbersOf}
-use Rattle.core_constraints.specs.Rows.{result_of, Gains}
+use Rattle.core_constraints.specs.Rows.{result_of}
+use Rattle.core_constraints.specs.RowLists.{Gains}
 use Rattle.core_constraints.specs.FrameRows.{has_one_row}
 use Rattle.core_constraints.specs.Tests.{asks_nodes}
 use Rattle.core_constraints.proofs.Decided.{same, take_whole, in_take_more, in_take_next, in_take_this, in_take_none}

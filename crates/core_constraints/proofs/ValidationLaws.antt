@@ -1,10 +1,10 @@
 -- How lists of validations and of rows grow, and what a worklist of validations has found.
-use Rattle.std.proofs.Common.{◌≡◌, ◌↔◌, ◌⊎◌, inl, inr, ℕ, zero, suc, ◌+◌, ◌*◌, ◌-◌, ◌<◌, ◌≤◌, Bool, true, false, cond, IsTrue, List, [], ◌∷◌, ◌++◌, take, map, length, get_or, Contains, Option, Some, None, option_map, slice_get, refl, sym, ap, ◌∙◌, subst, arith}
+use Rattle.std.proofs.Common.{◌≡◌, ◌↔◌, ◌⊎◌, inl, inr, ℕ, zero, suc, ◌+◌, ◌*◌, ◌<◌, ◌≤◌, Bool, true, false, cond, IsTrue, List, [], ◌∷◌, ◌++◌, take, map, length, get_or, Contains, Option, Some, None, option_map, slice_get, refl, sym, ap, ◌∙◌, subst, arith}
 use Rattle.std.specs.Prelude.{option_and_then, unwrap_or}
 use Rattle.std.specs.List.{list_any, IsDistinct}
 use Rattle.std.specs.Cmp.{IsEquivalence}
 use Rattle.std.proofs.lemmas.Bool.{cases_lt, false≢true}
-use Rattle.std.proofs.lemmas.List.{length-append, length-map, get_or_default}
+use Rattle.std.proofs.lemmas.List.{length-append, length-map}
 use Rattle.std.proofs.lemmas.List.Elements.{Contains-append_cases, Contains-append_left, Contains-append_right}
 use Rattle.std.proofs.lemmas.Map.Views.{Contains-from_any, list_any-from_Contains}
 use Rattle.std.proofs.lemmas.Map.Made.{length-le_from_is_member}
@@ -15,8 +15,7 @@ use Rattle.rdf_terms.specs.Graph.{Graph}
 use Rattle.rdf_terms.specs.Members.{IsListOf}
 use Rattle.rdf_terms.specs.Nodes.{terms, has_term}
 use Rattle.rdf_terms.specs.Vocab.Sh as sh
-use Rattle.rdf_terms.proofs.Members.{in_none, in_first, in_rest, in_cases, in_map, map_in, take_next}
-use Rattle.rdf_navigation.specs.Numbers.{term_at}
+use Rattle.rdf_terms.proofs.Members.{in_none, in_first, in_rest, in_map, map_in, take_next}
 use Rattle.rdf_navigation.specs.Values.{value_of}
 use Rattle.rdf_navigation.proofs.PropertyLaws.{same_some}
 use Rattle.path_eval.specs.Numbered.{terms_at, AreNumbers}
@@ -38,8 +37,9 @@ use Rattle.core_constraints.specs.declared.input.Input.{Input}
 use Rattle.core_constraints.specs.declared.memo.Validation.{Validation}
 use Rattle.core_constraints.specs.declared.result_rows.ResultRow.{ResultRow}
 use Rattle.core_constraints.specs.Findings.{shapes_of, data_of, term_of, HasFocusNodes, AreValueNodes}
-use Rattle.core_constraints.specs.RowLists.{NoRows, IsOwnRow, IsOwnRowBy}
-use Rattle.core_constraints.specs.Rows.{result_of, Gains, AreRowsOf, frame_for}
+use Rattle.core_constraints.specs.RowLists.{IsNoRow, IsOwnRow, IsOwnRowBy}
+use Rattle.core_constraints.specs.Rows.{result_of, AreRowsOf}
+use Rattle.core_constraints.specs.RowLists.{Gains, frame_for}
 use Rattle.core_constraints.specs.Validations.{pair_of, pairs_of, AreValidations, Adds, AreOfFocusNodes, IsNested, Leads, Follows, IsRowAt}
 use Rattle.core_constraints.proofs.Decided.{in_at}
 use Rattle.core_constraints.proofs.Opened.{IsRanked}
@@ -379,7 +379,7 @@ module _ (i : Input) where
   follow_none from vs off = record { kept = λ k l. refl; within = λ all. all; exact = grows_none (Contains (pairs_of i vs)) (Leads (shapes_of i) (data_of i) (pair_of i from)) (λ p l. false≢true (sym l.active ∙ off)) }
 
   -- the rows of a shape
-  own_none : (n : ℕ) (x : Term) (r : results.ResultRow) (o : Option (List ℕ)) → is_deactivated (shapes_of i) n ≡ true → IsRowOf (shapes_of i) (data_of i) NoRows n x r o → ⊥
+  own_none : (n : ℕ) (x : Term) (r : results.ResultRow) (o : Option (List ℕ)) → is_deactivated (shapes_of i) n ≡ true → IsRowOf (shapes_of i) (data_of i) IsNoRow n x r o → ⊥
   own_none n x r None off h = h
   own_none n x r (Some ps) off h = false≢true (sym h.0 ∙ off)
 
@@ -396,19 +396,19 @@ module _ (i : Input) where
   }
 
   abbrev RowBy : Term → results.Frame → Constraint → results.ResultRow → Type 0
-  RowBy x f c r = IsRowBy (data_of i) (λ u y. ConformsTo (shapes_of i) (data_of i) u y) NoRows (IsValue (shapes_of i) c.shape (data_of i) x) x f (form_of c.kind) r
+  RowBy x f c r = IsRowBy (data_of i) (λ u y. ConformsTo (shapes_of i) (data_of i) u y) IsNoRow (IsValue (shapes_of i) c.shape (data_of i) x) x f (form_of c.kind) r
 
   pub own_rows : IsRanked (shapes_of i) → (n : ℕ) (x : Term) (old new : List ResultRow) (ps : List ℕ) → constraints_of (shapes_of i) n ≡ Some ps → is_deactivated (shapes_of i) n ≡ false
       → Gains old (λ r. OfSome ps (λ q. IsRowAt i q x r)) new → Gains old (IsOwnRow i n x) new
-  own_rows ranked n x old new ps e on a = grows_same (Contains (map result_of old)) (Contains (map result_of new)) (λ r. OfSome ps (λ q. IsRowAt i q x r)) (IsOwnRow i n x) (λ r. (to r, λ h. from r (subst (λ o. IsRowOf (shapes_of i) (data_of i) NoRows n x r o) e h))) a
+  own_rows ranked n x old new ps e on a = grows_same (Contains (map result_of old)) (Contains (map result_of new)) (λ r. OfSome ps (λ q. IsRowAt i q x r)) (IsOwnRow i n x) (λ r. (to r, λ h. from r (subst (λ o. IsRowOf (shapes_of i) (data_of i) IsNoRow n x r o) e h))) a
     where
       to : (r : results.ResultRow) → OfSome ps (λ q. IsRowAt i q x r) → IsOwnRow i n x r
       to r h =
           let c = ranked.own n h.0 ps e h.1 in
           let row : RowBy x (frame_for (shapes_of i) c.0 x) c.0 r = subst (λ o. OfConstraint o (λ c. RowBy x (frame_for (shapes_of i) c x) c r)) c.1 h.2 in
-          subst (λ o. IsRowOf (shapes_of i) (data_of i) NoRows n x r o) (sym e) (on, (h.0, h.1, subst (λ o. OfConstraint o (λ c. RowBy x (frame_of (shapes_of i) n h.0 x) c r)) (sym c.1) (subst (λ f. RowBy x f c.0 r) (same_frame n h.0 x c.0 c.1 c.2) row)))
+          subst (λ o. IsRowOf (shapes_of i) (data_of i) IsNoRow n x r o) (sym e) (on, (h.0, h.1, subst (λ o. OfConstraint o (λ c. RowBy x (frame_of (shapes_of i) n h.0 x) c r)) (sym c.1) (subst (λ f. RowBy x f c.0 r) (same_frame n h.0 x c.0 c.1 c.2) row)))
 
-      from : (r : results.ResultRow) → IsRowOf (shapes_of i) (data_of i) NoRows n x r (Some ps) → OfSome ps (λ q. IsRowAt i q x r)
+      from : (r : results.ResultRow) → IsRowOf (shapes_of i) (data_of i) IsNoRow n x r (Some ps) → OfSome ps (λ q. IsRowAt i q x r)
       from r h =
           let c = ranked.own n h.1.0 ps e h.1.1 in
           let row : RowBy x (frame_of (shapes_of i) n h.1.0 x) c.0 r = subst (λ o. OfConstraint o (λ c. RowBy x (frame_of (shapes_of i) n h.1.0 x) c r)) c.1 h.1.2 in

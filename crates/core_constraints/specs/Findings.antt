@@ -31,12 +31,12 @@ module _ (i : Input) where
   term_of x = term_at i.graph.nodes x
 
   -- x is the number of a node
-  abbrev pub IsNumber : ℕ → Type 0
-  IsNumber x = x < length (terms i.graph.nodes)
+  abbrev pub IsNodeNumber : ℕ → Type 0
+  IsNodeNumber x = x < length (terms i.graph.nodes)
 
   -- n is the number of a shape
-  abbrev pub IsShape : ℕ → Type 0
-  IsShape n = n < length (shape_terms shapes_of)
+  abbrev pub IsShapeNumber : ℕ → Type 0
+  IsShapeNumber n = n < length (shape_terms shapes_of)
 
   -- y conforms to shape n
   abbrev pub IsConforming : ℕ → Term → Type 0

@@ -7,13 +7,13 @@ use Rattle.shapes_graph.specs.Conformance.{IsOpen}
 use Rattle.shapes_graph.specs.Results as results
 use Rattle.shapes_graph.specs.Results.{row, row_of_triple}
 use Rattle.core_constraints.specs.declared.result_rows.Frame.{Frame}
-use Rattle.core_constraints.specs.Findings.{data_of, term_of, IsNumber, IsShape, IsValueNode, AreValueNodes}
+use Rattle.core_constraints.specs.Findings.{data_of, term_of, IsNodeNumber, IsShapeNumber, IsValueNode, AreValueNodes}
 use Rattle.core_constraints.specs.RowLists.{frame_by, IsOwnRowBy}
 
 -- the constraint is one of a shape, and the node has a number
 pub record IsFrame (f : Frame) : Type 0 where
-  pub shape : IsShape f.input.now f.constraint.now.shape
-  pub node : IsNumber f.input.now f.node
+  pub shape : IsShapeNumber f.input.now f.constraint.now.shape
+  pub node : IsNodeNumber f.input.now f.node
 
 -- the numbers of the value nodes
 abbrev pub AreFrameValues : Frame → List ℕ → Type 0

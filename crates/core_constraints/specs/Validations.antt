@@ -11,9 +11,9 @@ use Rattle.shapes_graph.specs.Results as results
 use Rattle.shapes_graph.specs.Targets.{IsFocus}
 use Rattle.core_constraints.specs.declared.input.Input.{Input}
 use Rattle.core_constraints.specs.declared.memo.Validation.{Validation}
-use Rattle.core_constraints.specs.Findings.{shapes_of, data_of, term_of, IsNumber, IsShape}
+use Rattle.core_constraints.specs.Findings.{shapes_of, data_of, term_of, IsNodeNumber, IsShapeNumber}
 use Rattle.core_constraints.specs.RowLists.{IsOwnRowBy}
-use Rattle.core_constraints.specs.Rows.{frame_for}
+use Rattle.core_constraints.specs.RowLists.{frame_for}
 use Rattle.core_constraints.specs.Tests.{IsPlaceOf}
 
 -- the number of a shape, and a node that is validated against it
@@ -25,7 +25,7 @@ pairs_of i vs = map (pair_of i) vs
 
 -- the validations are of shapes and of nodes that there are
 abbrev pub AreValidations : Input → List Validation → Type 0
-AreValidations i vs = (v : Validation) → Contains vs v → IsShape i v.shape × IsNumber i v.node
+AreValidations i vs = (v : Validation) → Contains vs v → IsShapeNumber i v.shape × IsNodeNumber i v.node
 
 -- a list to which the validations with P were appended, as far as they weren't there
 pub record Adds (old new : List Validation) (P : Validation → Type 0) : Type 0 where

@@ -1,7 +1,7 @@
 ghost use Rattle.std.specs.Prelude.{IfOk};
 ghost use Rattle.rdf_navigation.specs.Instances.{IsInstance};
 ghost use Rattle.core_constraints.specs.Decisions.{Says};
-ghost use Rattle.core_constraints.specs.Findings.{IsTruthful, IsNumber, data_of, term_of};
+ghost use Rattle.core_constraints.specs.Findings.{IsTruthful, IsNodeNumber, data_of, term_of};
 
 use crate::input::Input;
 use crate::memo::Memo;
@@ -19,7 +19,7 @@ fn is_instance_of_node(
     class: usize,
     node: &Term,
 ) -> Result<bool, OutOfMemory>
-    requires class { IsNumber input.now class }
+    requires class { IsNodeNumber input.now class }
     requires truthful { IsTruthful input.now memo.old }
     ensures says { IfOk result (λ b. Says b (IsInstance (data_of input.now) node.now (term_of input.now class))) }
     ensures truthful { IsTruthful input.now memo.new }
@@ -42,7 +42,7 @@ pub(crate) fn is_instance(
     class: &Term,
     node: usize,
 ) -> Result<bool, OutOfMemory>
-    requires node { IsNumber input.now node }
+    requires node { IsNodeNumber input.now node }
     requires truthful { IsTruthful input.now memo.old }
     ensures says { IfOk result (λ b. Says b (IsInstance (data_of input.now) (term_of input.now node) class.now)) }
     ensures truthful { IsTruthful input.now memo.new }

@@ -4,7 +4,8 @@ ghost use Rattle.shapes_graph.specs.Targets.{IsFocus};
 ghost use Rattle.shapes_graph.specs.Conformance.{Conforms};
 ghost use Rattle.shapes_graph.specs.Results.{HasNoResult};
 ghost use Rattle.core_constraints.specs.Decisions.{Says};
-ghost use Rattle.core_constraints.specs.Findings.{shapes_of, data_of, IsShape, IsConforming, IsTruthful, HasFocusNodes};
+ghost use Rattle.core_constraints.specs.Findings.{shapes_of, data_of, IsShapeNumber, IsConforming};
+ghost use Rattle.core_constraints.specs.Findings.{IsTruthful, HasFocusNodes};
 
 use crate::evaluation::conforms_to;
 use crate::input::Input;
@@ -21,7 +22,7 @@ fn conform_to_shape(
     memo: &mut Memo,
     shape: usize,
 ) -> Result<bool, OutOfMemory>
-    requires shape { IsShape input.now shape }
+    requires shape { IsShapeNumber input.now shape }
     requires focus { HasFocusNodes input.now }
     requires truthful { IsTruthful input.now memo.old }
     ensures says { IfOk result (λ b. Says b ((x : T) → IsFocus (shapes_of input.now) shape (data_of input.now) x
@@ -38,7 +39,8 @@ fn conform_to_shape(
 }
 
 /// Whether the data graph conforms to the shapes graph (SHACL 2017, section 3.5), which it does exactly
-/// where there are no validation results. It ends at the first node that doesn't conform.
+/// where there are no validation results. It ends at the first node that doesn't conform; no clause says
+/// so.
 pub fn conforms(alloc: Global, shapes: &Shapes, graph: &Graph) -> Result<bool, OutOfMemory>
     ensures conforms { IfOk result (λ b. IsTrue b ↔ Conforms shapes.now graph.now) }
     ensures empty { IfOk result (λ b. IsTrue b ↔ HasNoResult shapes.now graph.now) }

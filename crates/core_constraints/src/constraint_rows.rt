@@ -5,11 +5,11 @@ ghost use Rattle.shapes_graph.specs.Forms.{NotObject, Every, Closing, Same, Uniq
 ghost use Rattle.shapes_graph.specs.Results.{row_of_triple};
 ghost use Rattle.path_eval.specs.Numbered.{AreNumbers};
 ghost use Rattle.core_constraints.specs.Decisions.{Says};
-ghost use Rattle.core_constraints.specs.Findings.{shapes_of, term_of, IsNumber, IsTruthful};
+ghost use Rattle.core_constraints.specs.Findings.{shapes_of, term_of, IsNodeNumber, IsTruthful};
 ghost use Rattle.core_constraints.specs.Findings.{IsValueNode, AreValueNodes};
 ghost use Rattle.core_constraints.specs.Levels.{IsStated};
 ghost use Rattle.core_constraints.specs.Tests.{is_tested, IsGoodNode};
-ghost use Rattle.core_constraints.specs.Rows.{Gains, frame_for};
+ghost use Rattle.core_constraints.specs.RowLists.{Gains, frame_for};
 ghost use Rattle.core_constraints.specs.RowLists.{frame_by, IsOwnRowBy};
 ghost use Rattle.core_constraints.specs.FrameRows.{IsFrame, AreFrameValues, row_of_node, IsOpenRow, IsRowOfForm};
 ghost use Rattle.core_constraints.specs.FrameRows.{has_one_row};
@@ -33,7 +33,7 @@ fn push_row_of_node(
     rows: &mut Rows,
 ) -> Result<(), OutOfMemory>
     requires frame { IsFrame frame }
-    requires node { IsNumber frame.input.now node }
+    requires node { IsNodeNumber frame.input.now node }
     ensures { OnOk result (Gains rows.old (λ r. IsTrue is_at_fault × (r ≡ row_of_node frame.entry node)) rows.new) }
 {
     if !is_at_fault {
@@ -69,7 +69,7 @@ fn push_open_rows_of_value(
     rows: &mut Rows,
 ) -> Result<(), OutOfMemory>
     requires frame { IsFrame frame }
-    requires value { IsNumber frame.input.now value }
+    requires value { IsNodeNumber frame.input.now value }
     ensures { OnOk result (Gains rows.old (IsOpenRow frame.entry allowed.now
         (λ y. y ≡ term_of frame.entry.input.now value)) rows.new) }
 {
@@ -255,7 +255,7 @@ pub(crate) fn push_constraint_rows(
     rows: &mut Rows,
 ) -> Result<(), OutOfMemory>
     requires stated { IsStated (shapes_of input.now) place constraint.now }
-    requires node { IsNumber input.now node }
+    requires node { IsNodeNumber input.now node }
     requires values { AreValueNodes input.now constraint.now.shape node values.now }
     requires truthful { IsTruthful input.now memo.old }
     ensures rows { OnOk result (Gains rows.old (IsOwnRowBy input.now

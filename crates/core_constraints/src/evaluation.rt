@@ -9,7 +9,8 @@ ghost use Rattle.path_eval.specs.Numbered.{terms_at, AreNumbers};
 ghost use Rattle.core_constraints.specs.Decisions.{Says, Exactly};
 ghost use Rattle.core_constraints.specs.Levels.{AreLower, AreDistinct, IsStated};
 ghost use Rattle.core_constraints.specs.Tests.{is_tested, IsGoodNode, IsPlaceOf};
-ghost use Rattle.core_constraints.specs.Findings.{shapes_of, data_of, term_of, IsNumber, IsShape, IsConforming};
+ghost use Rattle.core_constraints.specs.Findings.{shapes_of, data_of, term_of, IsNodeNumber};
+ghost use Rattle.core_constraints.specs.Findings.{IsShapeNumber, IsConforming};
 ghost use Rattle.core_constraints.specs.Findings.{IsValueNode, AreValueNodes, IsTruthful};
 
 use crate::classes::is_instance;
@@ -32,8 +33,8 @@ pub(crate) fn conforms_to(
     shape: usize,
     node: usize,
 ) -> Result<bool, OutOfMemory>
-    requires shape { IsShape input.now shape }
-    requires node { IsNumber input.now node }
+    requires shape { IsShapeNumber input.now shape }
+    requires node { IsNodeNumber input.now node }
     requires truthful { IsTruthful input.now memo.old }
     ensures says { IfOk result (λ b. Says b (IsConforming input.now shape (term_of input.now node))) }
     ensures truthful { IsTruthful input.now memo.new }
@@ -56,8 +57,8 @@ fn meets_shape(
     shape: usize,
     node: usize,
 ) -> Result<bool, OutOfMemory>
-    requires shape { IsShape input.now shape }
-    requires node { IsNumber input.now node }
+    requires shape { IsShapeNumber input.now shape }
+    requires node { IsNodeNumber input.now node }
     requires truthful { IsTruthful input.now memo.old }
     ensures says { IfOk result (λ b. Says b (IsConforming input.now shape (term_of input.now node))) }
     ensures truthful { IsTruthful input.now memo.new }
@@ -88,9 +89,9 @@ fn holds_at(
     node: usize,
     values: &[usize],
 ) -> Result<bool, OutOfMemory>
-    requires shape { IsShape input.now shape }
+    requires shape { IsShapeNumber input.now shape }
     requires place { IsPlaceOf (shapes_of input.now) shape place }
-    requires node { IsNumber input.now node }
+    requires node { IsNodeNumber input.now node }
     requires values { AreValueNodes input.now shape node values.now }
     requires truthful { IsTruthful input.now memo.old }
     ensures says { IfOk result (λ b. Says b (HoldsIn (shapes_of input.now) (data_of input.now) (IsConforming input.now)
@@ -117,7 +118,7 @@ pub(crate) fn holds(
     values: &[usize],
 ) -> Result<bool, OutOfMemory>
     requires stated { IsStated (shapes_of input.now) place constraint.now }
-    requires node { IsNumber input.now node }
+    requires node { IsNodeNumber input.now node }
     requires values { AreValueNodes input.now constraint.now.shape node values.now }
     requires truthful { IsTruthful input.now memo.old }
     ensures says { IfOk result (λ b. Says b (HoldsBy (data_of input.now) (IsConforming input.now)
@@ -212,7 +213,7 @@ pub(crate) fn is_good(
     value: usize,
 ) -> Result<bool, OutOfMemory>
     requires stated { IsStated (shapes_of input.now) place constraint.now }
-    requires value { IsNumber input.now value }
+    requires value { IsNodeNumber input.now value }
     requires alone { IsTrue (is_tested constraint.now.kind) }
     requires truthful { IsTruthful input.now memo.old }
     ensures says { IfOk result (λ b. Says b (IsGoodNode input.now constraint.now.kind (term_of input.now value))) }
@@ -294,7 +295,7 @@ fn is_qualified(
     node: usize,
 ) -> Result<bool, OutOfMemory>
     requires lower { AreLower (shapes_of input.now) owner (shape ∷ siblings.now) }
-    requires node { IsNumber input.now node }
+    requires node { IsNodeNumber input.now node }
     requires truthful { IsTruthful input.now memo.old }
     ensures says { IfOk result (λ b. Says b (IsConforming input.now shape (term_of input.now node)
         × EachOf (λ u. ¬ (IsConforming input.now u (term_of input.now node))) siblings.now)) }
@@ -317,7 +318,7 @@ fn conforms_to_all(
     node: usize,
 ) -> Result<bool, OutOfMemory>
     requires lower { AreLower (shapes_of input.now) owner shapes.now }
-    requires node { IsNumber input.now node }
+    requires node { IsNodeNumber input.now node }
     requires truthful { IsTruthful input.now memo.old }
     ensures says { IfOk result (λ b. Says b
         (EachOf (λ u. IsConforming input.now u (term_of input.now node)) shapes.now)) }
@@ -342,7 +343,7 @@ fn conforms_to_any(
     node: usize,
 ) -> Result<bool, OutOfMemory>
     requires lower { AreLower (shapes_of input.now) owner shapes.now }
-    requires node { IsNumber input.now node }
+    requires node { IsNodeNumber input.now node }
     requires truthful { IsTruthful input.now memo.old }
     ensures says { IfOk result (λ b. Says b
         (SomeOf (λ u. IsConforming input.now u (term_of input.now node)) shapes.now)) }
@@ -369,7 +370,7 @@ fn count_conforming(
 ) -> Result<u64, OutOfMemory>
     requires lower { AreLower (shapes_of input.now) owner shapes.now }
     requires once { AreDistinct shapes.now }
-    requires node { IsNumber input.now node }
+    requires node { IsNodeNumber input.now node }
     requires truthful { IsTruthful input.now memo.old }
     ensures says { IfOk result (λ n. Exactly nat_cmp (λ u. Contains shapes.now u
         × IsConforming input.now u (term_of input.now node)) n) }

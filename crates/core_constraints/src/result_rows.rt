@@ -2,7 +2,7 @@ ghost use Rattle.std.specs.Prelude.{◌≡◌, [], IfOk, Some, None, option_map,
 ghost use Rattle.shapes_graph.specs.Constraints.{component_of};
 ghost use Rattle.shapes_graph.specs.PathForms.{text_of};
 ghost use Rattle.shapes_graph.specs.Results.{row, row_of_triple};
-ghost use Rattle.core_constraints.specs.Findings.{term_of, IsNumber, IsShape};
+ghost use Rattle.core_constraints.specs.Findings.{term_of, IsNodeNumber, IsShapeNumber};
 ghost use Rattle.core_constraints.specs.Rows.{result_of};
 ghost use Rattle.core_constraints.specs.RowLists.{frame_by};
 
@@ -94,7 +94,7 @@ fn copy_of(alloc: Global, term: Option<&Term>) -> Result<Option<Term>, OutOfMemo
 impl Frame<'_> {
     /// The value of `sh:path` for the shape of the constraint, if it has one.
     pub(crate) fn path(&self) -> Option<&Term>
-        requires { IsShape self.now.input.now self.now.constraint.now.shape }
+        requires { IsShapeNumber self.now.input.now self.now.constraint.now.shape }
         ensures { option_copied result ≡ (frame_by self.now).path }
     {
         let shapes = self.input.shapes;
@@ -113,8 +113,8 @@ impl Frame<'_> {
         value: Option<&Term>,
         message: Option<Text>,
     ) -> Result<ResultRow, OutOfMemory>
-        requires shape { IsShape self.now.input.now self.now.constraint.now.shape }
-        requires node { IsNumber self.now.input.now self.now.node }
+        requires shape { IsShapeNumber self.now.input.now self.now.constraint.now.shape }
+        requires node { IsNodeNumber self.now.input.now self.now.node }
         ensures { IfOk result (λ r. result_of r ≡ row (record (frame_by self.now) { path = option_copied path.entry })
             (option_copied value.entry) message) }
     {
@@ -133,8 +133,8 @@ impl Frame<'_> {
 
     /// A row with no value.
     pub(crate) fn row_without_value(&self, alloc: Global) -> Result<ResultRow, OutOfMemory>
-        requires shape { IsShape self.now.input.now self.now.constraint.now.shape }
-        requires node { IsNumber self.now.input.now self.now.node }
+        requires shape { IsShapeNumber self.now.input.now self.now.constraint.now.shape }
+        requires node { IsNodeNumber self.now.input.now self.now.node }
         ensures { IfOk result (λ r. result_of r ≡ row (frame_by self.now) None None) }
     {
         self.row(alloc, self.path(), None, None)
@@ -142,9 +142,9 @@ impl Frame<'_> {
 
     /// A row with this node as value.
     pub(crate) fn row_of_value(&self, alloc: Global, value: usize) -> Result<ResultRow, OutOfMemory>
-        requires shape { IsShape self.now.input.now self.now.constraint.now.shape }
-        requires node { IsNumber self.now.input.now self.now.node }
-        requires value { IsNumber self.now.input.now value }
+        requires shape { IsShapeNumber self.now.input.now self.now.constraint.now.shape }
+        requires node { IsNodeNumber self.now.input.now self.now.node }
+        requires value { IsNodeNumber self.now.input.now value }
         ensures { IfOk result (λ r. result_of r ≡ row (frame_by self.now)
             (Some (term_of self.now.input.now value)) None) }
     {
@@ -153,8 +153,8 @@ impl Frame<'_> {
 
     /// A row with this language tag as message.
     pub(crate) fn row_of_tag(&self, alloc: Global, tag: &Text) -> Result<ResultRow, OutOfMemory>
-        requires shape { IsShape self.now.input.now self.now.constraint.now.shape }
-        requires node { IsNumber self.now.input.now self.now.node }
+        requires shape { IsShapeNumber self.now.input.now self.now.constraint.now.shape }
+        requires node { IsNodeNumber self.now.input.now self.now.node }
         ensures { IfOk result (λ r. result_of r ≡ row (frame_by self.now)
             None (Some tag.now)) }
     {
@@ -167,8 +167,8 @@ impl Frame<'_> {
         alloc: Global,
         triple: &Triple,
     ) -> Result<ResultRow, OutOfMemory>
-        requires shape { IsShape self.now.input.now self.now.constraint.now.shape }
-        requires node { IsNumber self.now.input.now self.now.node }
+        requires shape { IsShapeNumber self.now.input.now self.now.constraint.now.shape }
+        requires node { IsNodeNumber self.now.input.now self.now.node }
         ensures { IfOk result (λ r. result_of r ≡ row_of_triple (frame_by self.now)
             triple.now) }
     {

@@ -5,10 +5,12 @@ ghost use Rattle.shapes_graph.specs.declared.constraints.Constraint.{Constraint 
 ghost use Rattle.shapes_graph.specs.Constraints.{constraint_at};
 ghost use Rattle.shapes_graph.specs.Conformance.{Conforms};
 ghost use Rattle.shapes_graph.specs.Results.{IsResult};
-ghost use Rattle.core_constraints.specs.Findings.{shapes_of, term_of, IsNumber, IsShape, IsTruthful, HasFocusNodes};
+ghost use Rattle.core_constraints.specs.Findings.{shapes_of, term_of, IsNodeNumber, IsShapeNumber};
+ghost use Rattle.core_constraints.specs.Findings.{IsTruthful, HasFocusNodes};
 ghost use Rattle.core_constraints.specs.Findings.{AreValueNodes};
 ghost use Rattle.core_constraints.specs.RowLists.{IsOwnRow};
-ghost use Rattle.core_constraints.specs.Rows.{row_cmp, AreRowsOf, Gains};
+ghost use Rattle.core_constraints.specs.Rows.{row_cmp, AreRowsOf};
+ghost use Rattle.core_constraints.specs.RowLists.{Gains};
 ghost use Rattle.core_constraints.specs.Validations.{Adds, AreOfFocusNodes, Follows, IsNested, IsRowAt};
 
 use crate::constraint_rows::push_constraint_rows;
@@ -66,7 +68,7 @@ fn validate_at(
     values: &[usize],
 ) -> Result<(), OutOfMemory>
     requires place { place < length (triples (shapes_of input.now)) }
-    requires node { IsNumber input.now node }
+    requires node { IsNodeNumber input.now node }
     requires values { (c : C) → constraint_at (shapes_of input.now) place ≡ Some c
         → AreValueNodes input.now c.shape node values.now }
     requires truthful { IsTruthful input.now memo.old }
@@ -98,8 +100,8 @@ fn validate(
     rows: &mut Rows,
     validation: Validation,
 ) -> Result<(), OutOfMemory>
-    requires shape { IsShape input.now validation.shape }
-    requires node { IsNumber input.now validation.node }
+    requires shape { IsShapeNumber input.now validation.shape }
+    requires node { IsNodeNumber input.now validation.node }
     requires truthful { IsTruthful input.now memo.old }
     ensures rows { OnOk result (Gains rows.old (IsOwnRow input.now validation.shape (term_of input.now validation.node))
         rows.new) }
@@ -129,8 +131,8 @@ fn validate(
 }
 
 /// The validation results of the data graph, sorted and each once (SHACL 2017, section 3.6). There are some
-/// exactly where it doesn't conform. Each shape is validated at each node at most once, also where
-/// constraints lead to it again and again. `OutOfMemory` says nothing of the graphs.
+/// exactly where it doesn't conform. `OutOfMemory` says nothing of the graphs. Each shape is validated at each
+/// node at most once, also where constraints lead to it again and again; no clause says so.
 pub fn results(alloc: Global, shapes: &Shapes, graph: &Graph) -> Result<Rows, OutOfMemory>
     ensures sorted { IfOk result (IsStrictlySortedBy row_cmp) }
     ensures exact { IfOk result (AreRowsOf (IsResult shapes.now graph.now)) }

@@ -13,7 +13,8 @@ ghost use Rattle.path_eval.specs.Directions.{Towards};
 ghost use Rattle.path_eval.specs.Numbered.{terms_at, AreNumbers};
 ghost use Rattle.core_constraints.specs.Decisions.{Says};
 ghost use Rattle.core_constraints.specs.NumberLists.{AreNumbersOf, IsStep};
-ghost use Rattle.core_constraints.specs.Findings.{shapes_of, data_of, term_of, IsNumber, IsShape, AreValueNodes};
+ghost use Rattle.core_constraints.specs.Findings.{shapes_of, data_of, term_of, IsNodeNumber};
+ghost use Rattle.core_constraints.specs.Findings.{IsShapeNumber, AreValueNodes};
 
 use crate::input::Input;
 use path_eval::{Direction, reached_from};
@@ -30,7 +31,7 @@ fn linked_nodes(
     direction: Direction,
     node: usize,
 ) -> Result<Vec<usize>, OutOfMemory>
-    requires { IsNumber input.now node }
+    requires { IsNodeNumber input.now node }
     ensures { IfOk result (λ v. AreNumbersOf input.now.graph.nodes
         (Towards direction (λ x y. InGraph (data_of input.now) x (Term.Iri predicate.now) y) (term_of input.now node))
         v.items) }
@@ -48,7 +49,7 @@ pub(crate) fn objects_of(
     subject: usize,
     predicate: &str,
 ) -> Result<Vec<usize>, OutOfMemory>
-    requires { IsNumber input.now subject }
+    requires { IsNodeNumber input.now subject }
     ensures { IfOk result (λ v. AreNumbersOf input.now.graph.nodes
         (InGraph (data_of input.now) (term_of input.now subject) (Term.Iri predicate.now)) v.items) }
 {
@@ -95,7 +96,7 @@ fn reached_nodes(
     node: usize,
 ) -> Result<Vec<usize>, OutOfMemory>
     requires path { path < length (paths input.now.shapes.now) }
-    requires node { IsNumber input.now node }
+    requires node { IsNodeNumber input.now node }
     ensures { IfOk result (λ v. AreNumbersOf input.now.graph.nodes
         (Reaches (shapes_of input.now) path (data_of input.now) (term_of input.now node)) v.items) }
 {
@@ -121,8 +122,8 @@ pub(crate) fn value_nodes(
     shape: usize,
     node: usize,
 ) -> Result<Vec<usize>, OutOfMemory>
-    requires shape { IsShape input.now shape }
-    requires node { IsNumber input.now node }
+    requires shape { IsShapeNumber input.now shape }
+    requires node { IsNodeNumber input.now node }
     ensures { IfOk result (λ v. AreValueNodes input.now shape node v.items) }
 {
     match input.shapes.path_of(shape) {
@@ -168,7 +169,7 @@ pub(crate) fn is_among(terms: &[Term], term: &Term) -> bool
 
 /// The triples of the data graph with this subject.
 pub(crate) fn triples_of<'a>(input: &'a Input<'_>, subject: usize) -> &'a [Triple]
-    requires { IsNumber input.now subject }
+    requires { IsNodeNumber input.now subject }
     ensures { (t : Statement) → Contains result.now t
         ↔ (IsTrue (has (data_of input.now) t) × (t.subject ≡ term_of input.now subject)) }
 {

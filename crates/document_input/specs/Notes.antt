@@ -15,8 +15,8 @@ use Rattle.document_input.specs.declared.refusal.ClaimRefusal.{ClaimRefusal}
 use Rattle.document_input.specs.declared.refusal.ClaimRefusal.TheVariants.{NoPair, PairOutside}
 use Rattle.document_input.specs.declared.refusal.InputRefusal.{InputRefusal}
 use Rattle.document_input.specs.declared.refusal.InputRefusal.TheVariants.{Graph as OfGraph, Document as OfDocument}
-use Rattle.document_input.specs.declared.refusal.InputRefusal.TheVariants.{Shapes as OfShapes, Claim as OfClaim}
-use Rattle.document_input.specs.declared.refusal.InputRefusal.TheVariants.{Literal}
+use Rattle.document_input.specs.declared.refusal.InputRefusal.TheVariants.{Shapes as OfTheShapes, Claim as OfTheClaim}
+use Rattle.document_input.specs.declared.refusal.InputRefusal.TheVariants.{Literal as OfALiteral}
 use Rattle.ntriples_io.specs.CanonicalText.{term_text}
 
 abbrev pub role_text : Role → List ℕ
@@ -53,6 +53,6 @@ blame_text role reason = role_text role ++ codes ": " ++ reason
 abbrev pub refusal_text : InputRefusal → List ℕ
 refusal_text (OfGraph role refusal) = blame_text role (graph_text refusal)
 refusal_text (OfDocument refusal) = blame_text Document (document_text refusal)
-refusal_text (OfShapes refusal) = blame_text Shapes (shapes_text refusal)
-refusal_text (OfClaim refusal) = blame_text Document (claim_text refusal)
-refusal_text (Literal literal) = blame_text Data (codes "literal " ++ term_text literal)
+refusal_text (OfTheShapes refusal) = blame_text Shapes (shapes_text refusal)
+refusal_text (OfTheClaim refusal) = blame_text Document (claim_text refusal)
+refusal_text (OfALiteral literal) = blame_text Data (codes "literal " ++ term_text literal)

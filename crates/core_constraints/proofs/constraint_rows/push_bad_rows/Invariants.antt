@@ -1,7 +1,7 @@
 use Rattle.std.proofs.Common.{◌≡◌}
 use Rattle.core_constraints.specs.Findings.{term_of, IsTruthful}
 use Rattle.core_constraints.specs.Tests.{IsGoodNode}
-use Rattle.core_constraints.specs.Rows.{Gains}
+use Rattle.core_constraints.specs.RowLists.{Gains}
 use Rattle.core_constraints.specs.FrameRows.{row_of_node}
 use Rattle.core_constraints.proofs.RowLaws.{IsRowOfFirst}
 use Rattle.core_constraints.proofs.constraint_rows.push_bad_rows.Given as goal

@@ -5,8 +5,8 @@ use Rattle.shapes_graph.specs.Results as results
 use Rattle.path_eval.proofs.GrowthLaws.{on_ok}
 use Rattle.core_constraints.specs.Decisions.{Says}
 use Rattle.core_constraints.specs.Findings.{data_of, term_of, IsConforming, IsValueNode}
-use Rattle.core_constraints.specs.Rows.{Gains}
-use Rattle.core_constraints.specs.RowLists.{NoRows, frame_by}
+use Rattle.core_constraints.specs.RowLists.{Gains}
+use Rattle.core_constraints.specs.RowLists.{IsNoRow, frame_by}
 use Rattle.core_constraints.specs.FrameRows.{row_of_node, IsRowOfForm}
 use Rattle.core_constraints.proofs.RowLaws.{gains_iff, common_rows}
 use Rattle.core_constraints.proofs.constraint_rows.push_common_rows.Goals as goal
@@ -30,5 +30,5 @@ returns c =
     let Q = IsRowOfForm f (Every (NotObject c.args.predicate.now)) in
     on_ok c.push_rows_of_nodes.result (Gains c.args.rows.now (P c.as_slice.result.now) c.push_rows_of_nodes.new.rows) (Gains c.args.rows.now Q c.push_rows_of_nodes.new.rows) c.push_rows_of_nodes.ensures
     (λ h. gains_iff c.args.rows.now c.push_rows_of_nodes.new.rows (P os) Q
-    (common_rows (data_of i) (IsConforming i) NoRows (term_of i f.node) (frame_by f) i.graph.nodes (IsValueNode i f.constraint.now.shape f.node) vs c.requires.values c.args.predicate.now os c.in_ok-objects.ensures)
+    (common_rows (data_of i) (IsConforming i) IsNoRow (term_of i f.node) (frame_by f) i.graph.nodes (IsValueNode i f.constraint.now.shape f.node) vs c.requires.values c.args.predicate.now os c.in_ok-objects.ensures)
     (subst (λ ms. Gains c.args.rows.now (P ms) c.push_rows_of_nodes.new.rows) c.as_slice.ensures.value h))

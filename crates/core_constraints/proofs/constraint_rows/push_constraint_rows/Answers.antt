@@ -1,4 +1,4 @@
-use Rattle.std.proofs.Common.{◌≡◌, ◌↔◌, ℕ, true, false, Contains, Some, None, sym, ◌∙◌, ap, subst}
+use Rattle.std.proofs.Common.{◌≡◌, ◌↔◌, ℕ, true, Contains, Some, None, sym, ◌∙◌, ap, subst}
 use Rattle.std.specs.Prelude.{IsTrue, OnOk}
 use Rattle.rdf_navigation.specs.Numbers.{term_at}
 use Rattle.shapes_graph.specs.Forms.{Closing, Unique, Every, Same, NotObject, form_of}
@@ -7,8 +7,8 @@ use Rattle.shapes_graph.specs.Results as results
 use Rattle.shapes_graph.specs.Results.{IsRowBy, row}
 use Rattle.path_eval.proofs.GrowthLaws.{on_ok}
 use Rattle.core_constraints.specs.Findings.{shapes_of, data_of, term_of, IsConforming, IsValueNode}
-use Rattle.core_constraints.specs.Rows.{Gains, frame_for}
-use Rattle.core_constraints.specs.RowLists.{NoRows, IsOwnRowBy}
+use Rattle.core_constraints.specs.RowLists.{Gains, frame_for}
+use Rattle.core_constraints.specs.RowLists.{IsNoRow, IsOwnRowBy}
 use Rattle.core_constraints.specs.Tests.{test_in, asks_nodes, IsGoodNode}
 use Rattle.core_constraints.proofs.Decided.{no_false}
 use Rattle.core_constraints.proofs.Tested.{IsOfBadNodes, asks_every}
@@ -111,7 +111,7 @@ returns-in_default c =
     let e = asks_every k d in
     let P = λ (r : results.ResultRow). (a : ℕ) × Contains vs a × ((¬ (IsGoodNode i k (term_of i a))) × (r ≡ row f (Some (term_of i a)) None)) in
     let Q = IsOwnRowBy i V x f (form_of k) in
-    let same_rows = λ (r : results.ResultRow). subst (λ form. ((a : ℕ) × Contains vs a × ((¬ (IsGood g C (term_at n a) (test_in form) (term_at n a))) × (r ≡ row f (Some (term_at n a)) None))) ↔ IsRowBy g C NoRows V x f form r) (sym e.1) (every_rows g C NoRows x f n V vs c.requires.values e.0 e.2 r) in
+    let same_rows = λ (r : results.ResultRow). subst (λ form. ((a : ℕ) × Contains vs a × ((¬ (IsGood g C (term_at n a) (test_in form) (term_at n a))) × (r ≡ row f (Some (term_at n a)) None))) ↔ IsRowBy g C IsNoRow V x f form r) (sym e.1) (every_rows g C IsNoRow x f n V vs c.requires.values e.0 e.2 r) in
     record {
       rows = on_ok c.push_bad_rows.result (Gains c.args.rows.now P c.push_bad_rows.new.rows) (Gains c.args.rows.now Q c.push_bad_rows.new.rows) c.push_bad_rows.ensures.rows (λ h. gains_iff c.args.rows.now c.push_bad_rows.new.rows P Q same_rows h);
       truthful = c.push_bad_rows.ensures.truthful;

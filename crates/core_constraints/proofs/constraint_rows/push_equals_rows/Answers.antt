@@ -6,8 +6,8 @@ use Rattle.path_eval.specs.Numbered.{AreNumbers}
 use Rattle.path_eval.proofs.GrowthLaws.{on_ok}
 use Rattle.core_constraints.specs.Decisions.{Says}
 use Rattle.core_constraints.specs.Findings.{data_of, term_of, IsConforming, IsValueNode}
-use Rattle.core_constraints.specs.Rows.{Gains}
-use Rattle.core_constraints.specs.RowLists.{NoRows, frame_by}
+use Rattle.core_constraints.specs.RowLists.{Gains}
+use Rattle.core_constraints.specs.RowLists.{IsNoRow, frame_by}
 use Rattle.core_constraints.specs.FrameRows.{row_of_node, IsRowOfForm}
 use Rattle.core_constraints.proofs.RowLaws.{gains_then, gains_iff, alone_rows}
 use Rattle.core_constraints.proofs.constraint_rows.push_equals_rows.Goals as goal
@@ -38,6 +38,6 @@ returns c =
     let first = subst (λ ms. Gains c.args.rows.now (P vs ms) c.push_rows_of_nodes.new.rows) c.as_slice.ensures.value c.in_ok-push_rows_of_nodes.ensures in
     on_ok c.push_rows_of_nodes-2.result (Gains c.push_rows_of_nodes.new.rows (P c.as_slice-2.result.now vs) c.push_rows_of_nodes-2.new.rows) (Gains c.args.rows.now (IsRowOfForm f (Same c.args.predicate.now)) c.push_rows_of_nodes-2.new.rows) c.push_rows_of_nodes-2.ensures
     (λ h. gains_iff c.args.rows.now c.push_rows_of_nodes-2.new.rows (λ r. P vs os r ⊎ P os vs r) (IsRowOfForm f (Same c.args.predicate.now))
-    (alone_rows (data_of i) (IsConforming i) NoRows x (frame_by f) i.graph.nodes (IsValueNode i f.constraint.now.shape f.node) vs c.requires.values c.args.predicate.now os c.in_ok-objects.ensures)
+    (alone_rows (data_of i) (IsConforming i) IsNoRow x (frame_by f) i.graph.nodes (IsValueNode i f.constraint.now.shape f.node) vs c.requires.values c.args.predicate.now os c.in_ok-objects.ensures)
     (gains_then c.args.rows.now c.push_rows_of_nodes.new.rows c.push_rows_of_nodes-2.new.rows (P vs os) (P os vs) first
     (subst (λ ns. Gains c.push_rows_of_nodes.new.rows (P ns vs) c.push_rows_of_nodes-2.new.rows) c.as_slice-2.ensures.value h)))

@@ -3,7 +3,7 @@ use Rattle.std.proofs.lemmas.Option.{slice_get-get_or}
 use Rattle.shapes_graph.specs.Forms.{Closing}
 use Rattle.shapes_graph.specs.Results as results
 use Rattle.core_constraints.specs.Findings.{data_of, term_of, IsConforming, IsValueNode}
-use Rattle.core_constraints.specs.RowLists.{NoRows, frame_by}
+use Rattle.core_constraints.specs.RowLists.{IsNoRow, frame_by}
 use Rattle.core_constraints.specs.FrameRows.{IsOpenRow, IsRowOfForm}
 use Rattle.core_constraints.proofs.Decided.{in_at}
 use Rattle.core_constraints.proofs.RowLaws.{gains_start, gains_next, gains_whole, gains_iff, closing_rows}
@@ -30,5 +30,5 @@ returns c =
     let vs = c.args.values.now in
     let F = λ (a : ℕ) (r : results.ResultRow). IsOpenRow c.args.frame c.args.allowed.now (λ y. y ≡ term_of i a) r in
     gains_iff c.args.rows.now c.values.rows (λ r. (a : ℕ) × Contains vs a × F a r) (IsRowOfForm c.args.frame (Closing true c.args.allowed.now))
-    (closing_rows (data_of i) (IsConforming i) NoRows (term_of i c.args.frame.node) (frame_by c.args.frame) i.graph.nodes (IsValueNode i c.args.frame.constraint.now.shape c.args.frame.node) vs c.requires.values c.args.allowed.now)
+    (closing_rows (data_of i) (IsConforming i) IsNoRow (term_of i c.args.frame.node) (frame_by c.args.frame) i.graph.nodes (IsValueNode i c.args.frame.constraint.now.shape c.args.frame.node) vs c.requires.values c.args.allowed.now)
     (gains_whole F vs c.args.rows.now c.values.rows c.values.value-index c.values-test.false c.values.invariant)

@@ -1,6 +1,6 @@
 use Rattle.std.proofs.Common.{◌≡◌}
 use Rattle.core_constraints.specs.Findings.{term_of}
-use Rattle.core_constraints.specs.Rows.{Gains}
+use Rattle.core_constraints.specs.RowLists.{Gains}
 use Rattle.core_constraints.specs.FrameRows.{IsOpenRow}
 use Rattle.core_constraints.proofs.RowLaws.{IsRowOfFirst}
 use Rattle.core_constraints.proofs.constraint_rows.push_open_rows.Given as goal

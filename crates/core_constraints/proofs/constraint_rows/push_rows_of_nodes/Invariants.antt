@@ -1,6 +1,6 @@
 use Rattle.std.proofs.Common.{◌≡◌, Contains}
 use Rattle.core_constraints.specs.Decisions.{Says}
-use Rattle.core_constraints.specs.Rows.{Gains}
+use Rattle.core_constraints.specs.RowLists.{Gains}
 use Rattle.core_constraints.specs.FrameRows.{row_of_node}
 use Rattle.core_constraints.proofs.RowLaws.{IsRowOfFirst}
 use Rattle.core_constraints.proofs.constraint_rows.push_rows_of_nodes.Given as goal

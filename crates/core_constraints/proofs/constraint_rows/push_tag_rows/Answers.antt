@@ -10,7 +10,7 @@ use Rattle.shapes_graph.specs.Results as results
 use Rattle.shapes_graph.specs.Results.{row}
 use Rattle.path_eval.specs.Numbered.{terms_at}
 use Rattle.core_constraints.specs.Findings.{data_of, term_of, IsConforming, IsValueNode}
-use Rattle.core_constraints.specs.RowLists.{NoRows, frame_by}
+use Rattle.core_constraints.specs.RowLists.{IsNoRow, frame_by}
 use Rattle.core_constraints.specs.FrameRows.{IsRowOfForm}
 use Rattle.core_constraints.proofs.RowLaws.{gains_start, gains_next, gains_whole, gains_iff, gains_push, tag_rows}
 use Rattle.core_constraints.proofs.constraint_rows.push_tag_rows.Goals as goal
@@ -45,5 +45,5 @@ returns c =
     let tags = map (λ (t : Bor Text). t.now) items in
     let is = subst (λ (ts : List (Bor Text)). (tag : List ℕ) → Contains (map (λ (t : Bor Text). t.now) ts) tag ↔ ((y : Term) × (z : Term) × AreTwins (Contains (terms_at i.graph.nodes vs)) y z tag)) (sym c.as_slice-tag-items.ensures.value) c.in_ok-tags.ensures in
     gains_iff c.args.rows.now c.tags.rows (λ r. (tag : List ℕ) × Contains tags tag × F tag r) (IsRowOfForm f (Unique true))
-    (tag_rows (data_of i) (IsConforming i) NoRows (term_of i f.node) (frame_by f) i.graph.nodes (IsValueNode i f.constraint.now.shape f.node) vs c.requires.values tags is)
+    (tag_rows (data_of i) (IsConforming i) IsNoRow (term_of i f.node) (frame_by f) i.graph.nodes (IsValueNode i f.constraint.now.shape f.node) vs c.requires.values tags is)
     (gains_whole F tags c.args.rows.now c.tags.rows c.tags.tag-index (subst (λ n. n ≤ c.tags.tag-index) (sym (length-map items (λ (t : Bor Text). t.now))) c.tags-test.false) c.tags.invariant)

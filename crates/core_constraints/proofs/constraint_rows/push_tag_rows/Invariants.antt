@@ -1,6 +1,6 @@
 use Rattle.std.proofs.Common.{◌≡◌, Some, None, map}
 use Rattle.shapes_graph.specs.Results.{row}
-use Rattle.core_constraints.specs.Rows.{Gains}
+use Rattle.core_constraints.specs.RowLists.{Gains}
 use Rattle.core_constraints.specs.RowLists.{frame_by}
 use Rattle.core_constraints.proofs.RowLaws.{IsRowOfFirst}
 use Rattle.core_constraints.proofs.constraint_rows.push_tag_rows.Given as goal

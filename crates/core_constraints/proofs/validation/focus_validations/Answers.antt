@@ -1,6 +1,5 @@
-use Rattle.std.proofs.Common.{◌≡◌, ◌<◌, ◌≤◌, [], length, Contains, List, ℕ, sym, subst, arith}
+use Rattle.std.proofs.Common.{◌≡◌, ◌<◌, ◌≤◌, [], Contains, List, ℕ, sym, subst, arith}
 use Rattle.path_eval.proofs.FollowLaws.{none_there}
-use Rattle.shapes_profile.specs.Shapes.{shape_terms}
 use Rattle.core_constraints.specs.declared.memo.Validation.{Validation}
 use Rattle.core_constraints.specs.Validations.{Adds}
 use Rattle.core_constraints.proofs.ValidationLaws.{AreFocusedBefore, focus_start, focus_more, focus_end, shape_count}

@@ -1,9 +1,9 @@
-use Rattle.std.proofs.Common.{◌≡◌, ◌≤◌, length, get_or, take, Contains, refl, subst, take_all}
+use Rattle.std.proofs.Common.{◌≡◌, ◌≤◌, length, get_or, Contains, subst, take_all}
 use Rattle.std.proofs.lemmas.List.{get_or_default}
 use Rattle.core_constraints.specs.Findings.{same_validation}
 use Rattle.core_constraints.specs.Validations.{Adds}
 use Rattle.core_constraints.proofs.MemoLaws.{same_is}
-use Rattle.core_constraints.proofs.ValidationLaws.{adds_none, adds_insert, adds_node}
+use Rattle.core_constraints.proofs.ValidationLaws.{adds_insert, adds_node}
 use Rattle.core_constraints.proofs.validation.push_validations.Goals as goal
 
 pub nodes-preserved : goal.nodes-preserved

@@ -1,14 +1,13 @@
-use Rattle.std.proofs.Common.{◌≡◌, ◌≢◌, ◌↔◌, ℕ, ◌+◌, ◌-◌, ◌*◌, ◌<◌, ◌≤◌, Bool, Option, Some, None, List, [], length, get_or, slice_get, Contains, sym, ap, ◌∙◌, subst, arith}
+use Rattle.std.proofs.Common.{◌≡◌, ℕ, ◌+◌, ◌-◌, ◌*◌, ◌<◌, ◌≤◌, Some, None, List, length, get_or, slice_get, Contains, sym, ap, ◌∙◌, subst, arith}
 use Rattle.std.specs.HashMap.{get}
 use Rattle.std.specs.Prelude.{nat_eq}
 use Rattle.std.specs.List.Sorted.{IsStrictlySortedBy}
 use Rattle.std.proofs.lemmas.Option.{slice_get-get_or}
 use Rattle.rdf_terms.specs.Graph.{Graph}
-use Rattle.rdf_terms.specs.Nodes.{Nodes, terms}
+use Rattle.rdf_terms.specs.Nodes.{terms}
 use Rattle.rdf_terms.proofs.NodesLaws.{term_listed}
 use Rattle.rdf_navigation.proofs.PropertyLaws.{not_missing}
 use Rattle.path_eval.proofs.Found.{at_place}
-use Rattle.shapes_graph.specs.Conformance.{Conforms}
 use Rattle.shapes_graph.specs.Results.{IsResult}
 use Rattle.core_constraints.specs.declared.input.Input.{Input}
 use Rattle.core_constraints.specs.declared.memo.Memo.{Memo}
@@ -16,7 +15,6 @@ use Rattle.core_constraints.specs.declared.memo.Validation.{Validation}
 use Rattle.core_constraints.specs.declared.result_rows.ResultRow.{ResultRow}
 use Rattle.core_constraints.specs.Findings.{same_validation, IsTruthful, shapes_of, data_of}
 use Rattle.core_constraints.specs.Rows.{row_cmp, AreRowsOf}
-use Rattle.core_constraints.specs.Validations.{AreValidations}
 use Rattle.core_constraints.proofs.MemoLaws.{same_is}
 use Rattle.core_constraints.proofs.Opened.{IsRanked}
 use Rattle.core_constraints.proofs.Ranked.{ranked}

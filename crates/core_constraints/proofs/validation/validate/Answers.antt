@@ -1,10 +1,9 @@
-use Rattle.std.proofs.Common.{◌≡◌, ◌<◌, ◌≤◌, true, false, Some, List, ℕ, [], length, take, get_or, Contains, sym, ◌∙◌, subst, take_all}
+use Rattle.std.proofs.Common.{List, ℕ, [], get_or, Contains, sym, ◌∙◌, subst, take_all}
 use Rattle.std.proofs.lemmas.List.{get_or_default}
 use Rattle.rdf_terms.proofs.Members.{in_none}
 use Rattle.path_eval.proofs.Found.{at_place}
-use Rattle.shapes_graph.specs.Constraints.{constraints_of, is_deactivated}
 use Rattle.core_constraints.specs.Findings.{shapes_of, term_of, AreValueNodes}
-use Rattle.core_constraints.specs.Rows.{Gains}
+use Rattle.core_constraints.specs.RowLists.{Gains}
 use Rattle.core_constraints.specs.Validations.{Adds, IsNested, IsRowAt}
 use Rattle.core_constraints.proofs.Ranked.{ranked}
 use Rattle.core_constraints.proofs.ValidationLaws.{OfSome, gains_none, gains_more, adds_none, adds_more, values_at, follow_all, follow_none, own_rows, own_rows_none}

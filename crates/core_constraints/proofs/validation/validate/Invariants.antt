@@ -1,6 +1,6 @@
 use Rattle.std.proofs.Common.{take, Contains}
 use Rattle.core_constraints.specs.Findings.{shapes_of, term_of, IsTruthful}
-use Rattle.core_constraints.specs.Rows.{Gains}
+use Rattle.core_constraints.specs.RowLists.{Gains}
 use Rattle.core_constraints.specs.Validations.{Adds, IsNested, IsRowAt}
 use Rattle.core_constraints.proofs.ValidationLaws.{OfSome}
 use Rattle.core_constraints.proofs.validation.validate.Given as goal

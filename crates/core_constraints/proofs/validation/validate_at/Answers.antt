@@ -1,6 +1,5 @@
-use Rattle.std.proofs.Common.{◌≡◌, Some, None, Contains, sym}
+use Rattle.std.proofs.Common.{◌≡◌, Some, Contains, sym}
 use Rattle.path_eval.proofs.GrowthLaws.{on_ok}
-use Rattle.shapes_graph.specs.declared.constraints.Kind.TheVariants as kind
 use Rattle.shapes_graph.specs.Constraints.{constraint_at}
 use Rattle.core_constraints.specs.Findings.{shapes_of, term_of}
 use Rattle.core_constraints.specs.Validations.{IsNested, IsRowAt}
