@@ -11,13 +11,13 @@ use Rattle.rdf_terms.specs.declared.term.Term.{Term}
 use Rattle.rdf_terms.specs.declared.term.Term.TheVariants.{Literal}
 use Rattle.rdf_terms.specs.Term.{term_cmp}
 use Rattle.rdf_terms.specs.Statement.{Statement}
-use Rattle.rdf_terms.specs.Graph.{Graph, triples, has}
+use Rattle.rdf_terms.specs.Graph.{Graph, triples}
 use Rattle.rdf_terms.specs.Nodes.{Nodes, terms, has_term, IsNodeOf}
 use Rattle.rdf_terms.specs.Members.{IsSetOf}
 use Rattle.rdf_terms.specs.Vocab.Rdf as rdf
 use Rattle.rdf_terms.proofs.Bools.{alike}
 use Rattle.rdf_terms.proofs.Orders.{same_term, term_tied}
-use Rattle.rdf_terms.proofs.GraphLaws.{has_listed, listed_of_has}
+use Rattle.rdf_terms.proofs.GraphLaws.{listed_of_has}
 use Rattle.rdf_terms.proofs.Members.{take_next, in_map, map_in}
 use Rattle.rdf_terms.proofs.NodesLaws.{has_term_at}
 use Rattle.rdf_terms.proofs.Values.{IsListOf-objects}
@@ -76,20 +76,6 @@ table_at g n f table i r all within l is = (within r (subst (Contains table) (sy
         let own : slice_get table i ≡ Some r = slice_get_read table (length table) i r refl k is in
         let z : Some (term_at n r) ≡ Some (f t) = sym (ap (option_map (term_at n)) own) ∙ (sym (slice_get-map (term_at n) table i) ∙ (ap (λ us. slice_get us i) all ∙ (slice_get-map f (triples g) i ∙ ap (option_map f) s))) in
         cc
-
--- the triple of a walk over all
-pub listed_item : (g : Graph) (ts : List Statement) (i : ℕ) (t : Statement) → ts ≡ triples g → i < length ts → t ≡ get_or ts i t → IsTrue (has g t)
-listed_item g ts i t e l is = has_listed g t (subst (λ us. Contains us t) e (i, l, sym is))
-
--- a table of ends with one triple more
-pub table_more : (g : Graph) (n : Nodes) (f : Statement → Term) (ts : List Statement) (table new : List ℕ) (i r : ℕ) (t : Statement) (x : Term) → ts ≡ triples g → i < length ts → t ≡ get_or ts i t
-    → terms_at n table ≡ map f (take i (triples g)) → new ≡ table ++ r ∷ [] → slice_get (terms n) r ≡ Some x → f t ≡ x → terms_at n new ≡ map f (take (i + 1) (triples g))
-table_more g n f ts table new i r t x e l is all pushed place end =
-    ap (terms_at n) pushed
-    ∙ (map-append (term_at n) table (r ∷ [])
-    ∙ ((λ j. all j ++ (at_place_of n r x place ∙ sym end) j ∷ [])
-    ∙ (sym (map-append f (take i (triples g)) (t ∷ []))
-    ∙ sym (ap (map f) (take_next (triples g) i t (subst (λ us. i < length us) e l) (subst (λ us. t ≡ get_or us i t) e is))))))
 
 -- a list of terms with that of one number more
 pub terms_more : (n : Nodes) (is : List ℕ) (k : ℕ) (ts new : List Term) (x : Term) → k < length is → ts ≡ terms_at n (take k is) → new ≡ ts ++ x ∷ [] → slice_get (terms n) (get_or is k 0) ≡ Some x → new ≡ terms_at n (take (k + 1) is)

@@ -5,6 +5,7 @@ pub mod FoundNodes
 pub mod GrowthLaws
 pub mod InstancePath
 pub mod LinkLaws
+pub mod RankLaws
 pub mod ReachedLaws
 pub mod Searches
 pub mod SubjectPlaces

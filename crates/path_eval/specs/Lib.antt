@@ -3,4 +3,5 @@ pub mod Automaton
 pub mod Directions
 pub mod Links
 pub mod Numbered
+pub mod TermNumbers
 pub mod Visits

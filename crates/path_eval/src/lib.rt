@@ -8,6 +8,7 @@ mod evaluation;
 mod instances;
 mod numbered;
 mod search;
+mod term_numbers;
 mod visits;
 
 pub use direction::Direction;

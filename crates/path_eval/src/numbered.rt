@@ -1,16 +1,19 @@
-ghost use Rattle.std.specs.Prelude.{◌≡◌, ◌<◌, ◌≤◌, IsTrue, IfOk, IfSome, IfNone, length, slice_get, Some};
+ghost use Rattle.std.specs.Prelude.{◌≡◌, ◌<◌, IsTrue, IfOk, OnOk, IfSome, IfNone, length, slice_get, Some};
+ghost use Rattle.std.specs.Prelude.{All, Contains, ◌++◌};
 ghost use Rattle.rdf_terms.specs.declared.term.Term.{Term as T};
 ghost use Rattle.rdf_terms.specs.Statement.{Statement};
-ghost use Rattle.rdf_terms.specs.Graph.{triples, has, empty, ArePlacesOf};
+ghost use Rattle.rdf_terms.specs.Graph.{triples, empty, ArePlacesOf};
 ghost use Rattle.rdf_terms.specs.Members.{InGraph, IsListOf};
 ghost use Rattle.rdf_terms.specs.Nodes.{terms, has_term, nodes_of as nodes_of_graphs, IsNodeOf};
 ghost use Rattle.rdf_navigation.specs.Numbers.{term_at};
 ghost use Rattle.path_eval.specs.Directions.{Towards};
 ghost use Rattle.path_eval.specs.Numbered.{terms_at, AreNumbers, AreNumbered};
 ghost use Rattle.path_eval.specs.Links.{far_end, IsLinked};
+ghost use Rattle.path_eval.specs.TermNumbers.{terms_in, AreRanked, subjects_of, objects_of};
 
 use crate::Direction;
-use rdf_terms::{Graph, Nodes, OutOfMemory, Term, Terms, nodes_of};
+use crate::term_numbers::{common_start, look_up, number_terms, put_last};
+use rdf_terms::{Graph, Nodes, OutOfMemory, Term, Terms};
 use std::alloc::Global;
 use std::marker::Model;
 
@@ -38,58 +41,65 @@ impl<'g> Model for NumberedGraph<'g> {
     ghost invariant = { λ n. AreNumbered n.graph.now n.nodes n.subjects.items n.objects.items };
 }
 
-/// The number of a term of the set.
-fn number_of(nodes: &Nodes, term: &Term) -> usize
-    requires { IsTrue (has_term nodes.now term.now) }
-    ensures { slice_get (terms nodes.now) result ≡ Some term.now }
+/// The subjects of the triples, those of neighbours once, and for each triple the place of its subject
+/// among them.
+fn lead_subjects<'g>(
+    alloc: Global,
+    graph: &'g Graph,
+) -> Result<(Vec<&'g Term>, Vec<usize>), OutOfMemory>
+    ensures ranked { IfOk result (λ r. AreRanked (subjects_of (triples graph.now)) (terms_in r.0.items) r.1.items) }
+    ensures listed { IfOk result (λ r. All (Contains (subjects_of (triples graph.now))) (terms_in r.0.items)) }
 {
-    match nodes.index_of_term(term) {
-        Some(number) => number,
-        None => unreachable!(),
+    let mut leads = Vec::new(alloc);
+    let mut places = Vec::with_capacity(alloc, graph.len())?;
+    'triples: for triple in graph.as_slice() {
+        let place = put_last(&mut leads, &triple.subject, true)?;
+        places.push(place)?;
     }
+    Ok((leads, places))
 }
 
-/// Whether the term has this number in the set.
-fn is_at(nodes: &Nodes, number: usize, term: &Term) -> bool
-    ensures { IsTrue result → slice_get (terms nodes.now) number ≡ Some term.now }
+/// Appends the object of each triple.
+fn push_objects<'g>(terms: &mut Vec<&'g Term>, graph: &'g Graph) -> Result<(), OutOfMemory>
+    ensures { OnOk result (terms_in terms.new.items
+        ≡ terms_in terms.old.items ++ objects_of (triples graph.now)) }
 {
-    number < nodes.len() && *nodes.nth_term(number) == *term
+    'triples: for triple in graph.as_slice() {
+        terms.push(&triple.object)?;
+    }
+    Ok(())
 }
 
-/// The number of a term of the set. It is looked for where the term before it was, and right after that.
-fn number_after(nodes: &Nodes, before: usize, term: &Term) -> usize
-    requires before { before ≤ length (terms nodes.now) }
-    requires term { IsTrue (has_term nodes.now term.now) }
-    ensures { slice_get (terms nodes.now) result ≡ Some term.now }
+/// Appends further terms.
+fn push_more<'g>(terms: &mut Vec<&'g Term>, more: &'g [Term]) -> Result<(), OutOfMemory>
+    ensures { OnOk result (terms_in terms.new.items ≡ terms_in terms.old.items ++ more.now) }
 {
-    if is_at(nodes, before, term) {
-        return before;
+    'terms: for term in more {
+        terms.push(term)?;
     }
-    if before < nodes.len() && is_at(nodes, before + 1, term) {
-        return before + 1;
-    }
-    number_of(nodes, term)
+    Ok(())
 }
 
-/// The numbers of the subjects and of the objects of the triples, in their order.
+/// The set of the nodes of the graph and of further terms, and the numbers of the subjects and of the
+/// objects of the triples, in their order.
 fn number_ends(
     alloc: Global,
     graph: &Graph,
-    nodes: &Nodes,
-) -> Result<(Vec<usize>, Vec<usize>), OutOfMemory>
-    requires { (t : Statement) → IsTrue (has graph.now t)
-        → IsTrue (has_term nodes.now t.subject) × IsTrue (has_term nodes.now t.object) }
-    ensures { IfOk result (λ r. AreNumbered graph.now nodes.now r.0.items r.1.items) }
+    more: &[Term],
+) -> Result<(Nodes, Vec<usize>, Vec<usize>), OutOfMemory>
+    ensures nodes { IfOk result (λ r. r.0 ≡ nodes_of_graphs graph.now empty more.now) }
+    ensures numbers { IfOk result (λ r. AreNumbered graph.now r.0 r.1.items r.2.items) }
 {
-    let mut subjects = Vec::with_capacity(alloc, graph.len())?;
-    let mut objects = Vec::with_capacity(alloc, graph.len())?;
-    let mut subject = 0;
-    'triples: for triple in graph.as_slice() {
-        subject = number_after(nodes, subject, &triple.subject);
-        subjects.push(subject)?;
-        objects.push(number_of(nodes, &triple.object))?;
-    }
-    Ok((subjects, objects))
+    let (mut ends, mut subjects) = lead_subjects(alloc, graph)?;
+    let leads = ends.len();
+    let start = common_start(ends.as_slice());
+    push_objects(&mut ends, graph)?;
+    push_more(&mut ends, more)?;
+    let (nodes, mut numbers) = number_terms(alloc, ends.as_slice(), start)?;
+    look_up(subjects.as_mut_slice(), numbers.as_slice());
+    let mut objects = numbers.split_off(leads)?;
+    objects.truncate(graph.len());
+    Ok((nodes, subjects, objects))
 }
 
 impl<'g> NumberedGraph<'g> {
@@ -102,8 +112,7 @@ impl<'g> NumberedGraph<'g> {
         ensures graph { IfOk result (λ n. n.graph ≡ graph.now) }
         ensures nodes { IfOk result (λ n. n.nodes ≡ nodes_of_graphs graph.now empty more.now) }
     {
-        let nodes = nodes_of(alloc, graph, &Graph::new(alloc), more)?;
-        let (subjects, objects) = number_ends(alloc, graph, &nodes)?;
+        let (nodes, subjects, objects) = number_ends(alloc, graph, more)?;
         Ok(NumberedGraph {
             graph,
             nodes,

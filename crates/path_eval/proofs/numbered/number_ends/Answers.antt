@@ -1,38 +1,86 @@
-use Rattle.std.proofs.Common.{◌≤◌, length, arith, IsTrue, sym, ap, subst}
-use Rattle.std.proofs.lemmas.Option.{slice_get_within}
+use Rattle.std.proofs.Common.{◌≡◌, ◌<◌, ◌↔◌, ◌++◌, ℕ, List, length, IsTrue, All, Contains, map, take, drop, slice_index, get_or, sym, ap, ◌∙◌, subst, arith}
+use Rattle.std.proofs.lemmas.List.{take_at, length-map, length-append}
+use denote.Ref.{Bor}
+use Rattle.rdf_terms.specs.declared.term.Term.{Term}
 use Rattle.rdf_terms.specs.Statement.{Statement}
-use Rattle.rdf_terms.specs.Nodes.{terms, has_term}
-use Rattle.path_eval.specs.Numbered.{AreNumbers}
-use Rattle.path_eval.proofs.Found.{listed_item, table_more}
-use Rattle.path_eval.proofs.LinkLaws.{numbers_push}
+use Rattle.rdf_terms.specs.Graph.{triples}
+use Rattle.rdf_terms.specs.Nodes.{has_term}
+use Rattle.rdf_navigation.specs.Numbers.{term_at}
+use Rattle.path_eval.specs.Numbered.{terms_at, AreNumbers}
+use Rattle.path_eval.specs.TermNumbers.{terms_in, AreRanked, subjects_of, objects_of}
+use Rattle.path_eval.proofs.RankLaws.{ranks_inside, ranked_numbers, looked_within, ranked_more, ends_nodes, middle_terms, middle_within}
 use Rattle.path_eval.proofs.numbered.number_ends.Goals as goal
 
-pub number_after-subject-requires-clause-term : goal.number_after-subject-requires-clause-term
-number_after-subject-requires-clause-term c =
-    let t = c.triple-item.result in
-    subst (λ (u : Statement). IsTrue (has_term c.args.nodes.now u.subject)) (sym c.triple.view_is)
-    (c.requires t (listed_item c.args.graph.now c.as_slice-triple-items.result.now c.triples.triple-index t c.as_slice-triple-items.ensures c.triples-test.true c.triple-item.is)).0
-
-pub number_of-requires : goal.number_of-requires
-number_of-requires c =
-    let t = c.triple-item.result in
-    subst (λ (u : Statement). IsTrue (has_term c.args.nodes.now u.object)) (sym c.triple.view_is)
-    (c.requires t (listed_item c.args.graph.now c.as_slice-triple-items.result.now c.triples.triple-index t c.as_slice-triple-items.ensures c.triples-test.true c.triple-item.is)).1
-
-pub triples-preserved : goal.triples-preserved
-triples-preserved c =
+pub look_up-requires : goal.look_up-requires
+look_up-requires c =
     let g = c.args.graph.now in
-    let n = c.args.nodes.now in
-    let ts = c.as_slice-triple-items.result.now in
-    let i = c.triples.triple-index in
-    let t = c.triple-item.result in
-    let v = c.triple.inside in
-    let s = c.number_after-subject.result in
-    let o = c.number_of.result in
+    let n = c.in_ok-nodes.nodes in
+    let ts = subjects_of (triples g) in
+    let leads = terms_in c.in_ok-ends.ends.items in
+    let others = (leads ++ objects_of (triples g)) ++ c.args.more.now in
+    let ranks = c.in_ok-ends.subjects.items in
+    let numbers = c.in_ok-nodes.numbers.items in
+    let ends : terms_in c.as_slice-2.result.now ≡ others = ap terms_in c.as_slice-2.ensures.value ∙ (c.in_ok-push_more.ensures ∙ ap (λ (us : List Term). us ++ c.args.more.now) c.in_ok-push_objects.ensures) in
+    let all : terms_at n numbers ≡ others = c.in_ok-nodes.ensures.numbers ∙ ends in
+    let ranked : AreRanked ts others ranks = ranked_more ts (leads ++ objects_of (triples g)) c.args.more.now ranks (ranked_more ts leads (objects_of (triples g)) ranks c.in_ok-ends.ensures.ranked) in
+    subst (λ (table : List ℕ). All (λ r. r < length table) c.as_mut_slice.result.now) (sym c.as_slice-3.ensures.value)
+    (subst (λ (rs : List ℕ). All (λ r. r < length numbers) rs) (sym c.as_mut_slice.ensures.value) (ranks_inside n ts others ranks numbers ranked all))
+
+pub split_off-requires : goal.split_off-requires
+split_off-requires c =
+    let g = c.args.graph.now in
+    let n = c.in_ok-nodes.nodes in
+    let os = objects_of (triples g) in
+    let leads = terms_in c.in_ok-ends.ends.items in
+    let numbers = c.in_ok-nodes.numbers.items in
+    let ends : terms_in c.as_slice-2.result.now ≡ (leads ++ os) ++ c.args.more.now = ap terms_in c.as_slice-2.ensures.value ∙ (c.in_ok-push_more.ensures ∙ ap (λ (us : List Term). us ++ c.args.more.now) c.in_ok-push_objects.ensures) in
+    let many = length-map numbers (term_at n) in
+    let all = ap length (c.in_ok-nodes.ensures.numbers ∙ ends) in
+    let front = length-append (leads ++ os) c.args.more.now in
+    let first = length-append leads os in
+    let lead_size = c.in_ok-ends.ends.ok.0 in
+    let lead_map = length-map c.in_ok-ends.ends.items (λ (t : Bor Term). t.now) in
+    let size = c.in_ok-nodes.numbers.ok.0 in
+    omega (arith, many, all, front, first, lead_size, lead_map, size, c.len-leads.ensures)
+
+pub returns-clause-nodes : goal.returns-clause-nodes
+returns-clause-nodes c =
+    let g = c.args.graph.now in
+    let n = c.in_ok-nodes.nodes in
+    let leads = terms_in c.in_ok-ends.ends.items in
+    let others = (leads ++ objects_of (triples g)) ++ c.args.more.now in
+    let ends : terms_in c.as_slice-2.result.now ≡ others = ap terms_in c.as_slice-2.ensures.value ∙ (c.in_ok-push_more.ensures ∙ ap (λ (us : List Term). us ++ c.args.more.now) c.in_ok-push_objects.ensures) in
+    ends_nodes g c.args.more.now leads c.in_ok-ends.subjects.items n c.in_ok-ends.ensures.ranked c.in_ok-ends.ensures.listed
+    (λ t. subst (λ (us : List Term). IsTrue (has_term n t) ↔ Contains us t) ends (c.in_ok-nodes.ensures.nodes t))
+
+pub returns-clause-numbers : goal.returns-clause-numbers
+returns-clause-numbers c =
+    let g = c.args.graph.now in
+    let n = c.in_ok-nodes.nodes in
+    let ts = subjects_of (triples g) in
+    let os = objects_of (triples g) in
+    let leads = terms_in c.in_ok-ends.ends.items in
+    let others = (leads ++ os) ++ c.args.more.now in
+    let ranks = c.in_ok-ends.subjects in
+    let numbers = c.in_ok-nodes.numbers.items in
+    let ends : terms_in c.as_slice-2.result.now ≡ others = ap terms_in c.as_slice-2.ensures.value ∙ (c.in_ok-push_more.ensures ∙ ap (λ (us : List Term). us ++ c.args.more.now) c.in_ok-push_objects.ensures) in
+    let all : terms_at n numbers ≡ others = c.in_ok-nodes.ensures.numbers ∙ ends in
+    let ranked : AreRanked ts others ranks.items = ranked_more ts (leads ++ os) c.args.more.now ranks.items (ranked_more ts leads os ranks.items c.in_ok-ends.ensures.ranked) in
+    let new = c.look_up.new.places in
+    let is : new ≡ map (λ r. get_or numbers r 0) ranks.items =
+    c.look_up.ensures ∙ (ap (λ (table : List ℕ). map (slice_index table) c.as_mut_slice.result.now) c.as_slice-3.ensures.value ∙ ap (map (slice_index numbers)) c.as_mut_slice.ensures.value) in
+    let size = ranks.ok.0 in
+    let many = ap length is ∙ length-map ranks.items (λ r. get_or numbers r 0) in
+    let kept = take_at new (drop (length new) ranks.items) ranks.len (omega (arith, many, size)) in
+    let k = c.len-leads.result in
+    let m = c.len.result in
+    let part : c.truncate.new.self.items ≡ take m (drop k numbers) = c.truncate.ensures.items ∙ ap (take m) c.in_ok-objects.ensures.tail in
+    let lead_size = c.in_ok-ends.ends.ok.0 in
+    let lead_map = length-map c.in_ok-ends.ends.items (λ (t : Bor Term). t.now) in
+    let object_map = length-map (triples g) (λ (t : Statement). t.object) in
     record {
-      before = let l = slice_get_within (terms n) s v.subject c.number_after-subject.ensures in omega (arith, l);
-      subject = table_more g n (λ (u : Statement). u.subject) ts c.triples.subjects.items c.push.new.self.items i s t v.subject c.as_slice-triple-items.ensures c.triples-test.true c.triple-item.is c.triples.invariant.subject c.in_ok-push.ensures.items c.number_after-subject.ensures (sym (ap (λ (u : Statement). u.subject) c.triple.view_is));
-      object = table_more g n (λ (u : Statement). u.object) ts c.triples.objects.items c.push-in-triples.new.self.items i o t v.object c.as_slice-triple-items.ensures c.triples-test.true c.triple-item.is c.triples.invariant.object c.in_ok-push-2.ensures.items c.number_of.ensures (sym (ap (λ (u : Statement). u.object) c.triple.view_is));
-      subjects_within = subst (λ us. AreNumbers n us) (sym c.in_ok-push.ensures.items) (numbers_push n c.triples.subjects.items s c.triples.invariant.subjects_within (slice_get_within (terms n) s v.subject c.number_after-subject.ensures));
-      objects_within = subst (λ us. AreNumbers n us) (sym c.in_ok-push-2.ensures.items) (numbers_push n c.triples.objects.items o c.triples.invariant.objects_within (slice_get_within (terms n) o v.object c.number_of.ensures));
+      subject = ap (terms_at n) (kept ∙ is) ∙ ranked_numbers n ts others ranks.items numbers ranked all;
+      object = ap (terms_at n) part ∙ middle_terms n numbers k m leads os c.args.more.now all (omega (arith, lead_map, lead_size, c.len-leads.ensures)) (omega (arith, object_map, c.len.ensures));
+      subjects_within = subst (AreNumbers n) (sym (kept ∙ is)) (looked_within n ts others ranks.items numbers ranked all c.in_ok-nodes.ensures.within);
+      objects_within = subst (AreNumbers n) (sym part) (middle_within n numbers k m c.in_ok-nodes.ensures.within);
     }

@@ -1,12 +1,10 @@
 use Rattle.std.proofs.Common.{◌≡◌, ℕ, ◌+◌, ◌<◌, ◌≤◌, List, [], ◌∷◌, ◌++◌, sym, ◌∙◌, subst, arith}
-use Rattle.rdf_terms.specs.declared.term.Term.{Term}
 use Rattle.rdf_terms.specs.declared.term.Term.TheVariants.{Iri}
 use Rattle.rdf_terms.specs.Graph.{triples, ArePlacesOf}
 use Rattle.rdf_terms.specs.Members.{InGraph, IsListOf}
 use Rattle.rdf_navigation.specs.Numbers.{term_at}
-use Rattle.rdf_navigation.proofs.NumberLaws.{at_place}
 use Rattle.path_eval.specs.declared.direction.Direction.TheVariants.{Forward}
-use Rattle.path_eval.specs.Numbered.{Numbered, terms_at, AreNumbers}
+use Rattle.path_eval.specs.Numbered.{terms_at, AreNumbers}
 use Rattle.path_eval.specs.Links.{IsLinked}
 use Rattle.path_eval.proofs.LinkLaws.{list_same, numbers_push, forward_more, forward_other, forward_is}
 use Rattle.path_eval.proofs.numbered.NumberedGraph.objects_of.Goals as goal
