@@ -1,10 +1,11 @@
 -- Pairs of additions and deletions, and that each of them is one set of triples: its change.
-use Rattle.std.proofs.Common.{◌≡◌, Bool, true, false, not, ◌&&◌, ◌||◌, IsTrue, refl, sym, ap, ◌∙◌, subst}
+use Rattle.std.proofs.Common.{◌≡◌, Bool, true, false, not, ◌&&◌, ◌||◌, refl, sym, ap, ◌∙◌, subst}
 use Rattle.std.proofs.lemmas.Bool.{false≢true}
 use Rattle.rdf_terms.specs.Statement.{Statement}
 use Rattle.rdf_terms.specs.Graph.{Graph, has, empty, without, edited}
 use Rattle.rdf_terms.proofs.GraphLaws.{has-empty, has-without, has-edited, same_graph, same_within}
-use Rattle.repair_problem.specs.Repair.{Within, Explains, Below, Minimal}
+use Rattle.repair_problem.specs.Repair.{Within, Below, Minimal}
+pub use Rattle.repair_problem.specs.Repair.{Apart}
 
 pub edited_by_none : (g : Graph) → edited g empty empty ≡ g
 edited_by_none g = same_graph _ _ (λ t. has-edited g empty empty t ∙ (λ i. (has g t && not (has-empty t i)) || has-empty t i) ∙ plain (has g t))
@@ -39,10 +40,6 @@ has-whole g h t = has-edited g h empty t ∙ (λ i. (has g t && not (has-empty t
     plain : (a : Bool) → (a && not false) ≡ a
     plain true = refl
     plain false = refl
-
--- no triple of h is in g
-abbrev pub Apart : Graph → Graph → Type 0
-Apart g h = (t : Statement) → IsTrue (has h t) → has g t ≡ false
 
 pub without_apart : (o g : Graph) → Apart g (without o g)
 without_apart o g t h = by (has o t) (has g t) (sym (has-without o g t) ∙ h)

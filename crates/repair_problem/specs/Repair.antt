@@ -2,13 +2,17 @@
 -- Ahmetaj et al., Reasoning about Explanations for Non-Validation in SHACL, KR 2021. That focus
 -- nodes are sought in the edited graph, and that pairs are compared componentwise, is this
 -- project's choice.
-use Rattle.std.specs.Prelude.{◌≡◌, IsTrue}
+use Rattle.std.specs.Prelude.{◌≡◌, IsTrue, false}
 use Rattle.rdf_terms.specs.Statement.{Statement}
 use Rattle.rdf_terms.specs.Graph.{Graph, has, edited}
 
 -- each triple of a is in b
 abbrev pub Within : Graph → Graph → Type 0
 Within a b = (t : Statement) → IsTrue (has a t) → IsTrue (has b t)
+
+-- no triple of b is in a
+abbrev pub Apart : Graph → Graph → Type 0
+Apart a b = (t : Statement) → IsTrue (has b t) → has a t ≡ false
 
 -- the additions are among the offers h, the deletions among the data g, and the edited graph
 -- conforms; Conforming says which graphs do

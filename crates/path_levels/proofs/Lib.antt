@@ -1,0 +1,16 @@
+pub mod Choices
+pub mod FoundNumbers
+pub mod LeadingLaws
+pub mod LevelSteps
+pub mod ListLaws
+pub mod MeantParts
+pub mod NodeLaws
+pub mod OpenedPaths
+pub mod PathDepths
+pub mod PathGrowth
+pub mod PlainParts
+pub mod Possibility
+pub mod PushLaws
+pub mod SameNumbers
+pub mod Searched
+pub mod TripleParts
