@@ -1,0 +1,4 @@
+pub mod Chains
+pub mod Determined
+pub mod Refutation
+pub mod Sets

@@ -1,0 +1,3 @@
+-- Steps of resolution: what contracts say of them.
+pub mod Marked
+pub mod Refusals
