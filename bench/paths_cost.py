@@ -1,7 +1,7 @@
 #!/usr/bin/env python3
 """Times the built `path_cases` on large data, each kind at one size and at a tenth of it.
 
-usage: bench/paths_cost.py [KIND..]    (all kinds where none is given)
+usage: bench/paths_cost.py [--instructions] [KIND..]    (all kinds where none is given)
 
 `chain`     a star from the first node of a chain of 100,000 triples
 `random`    a star over a random graph of 100,000 triples and 50,000 nodes
@@ -12,8 +12,9 @@ usage: bench/paths_cost.py [KIND..]    (all kinds where none is given)
 Each kind is a text of one case in N-Triples, whose terms are counted and not listed. It is run a second time with no
 shape and nothing asked, which is what reading the data takes. The rest is one call that seeks focus nodes and, for
 paths, one that follows them; each numbers the nodes of the graph. Prints what the program says, the processor seconds
-of both (the fewest of three runs), and by how much their difference and the triples grow. Exit status 1 where the
-program says something else than it should.
+of both (the fewest of three runs), and by how much their difference and the triples grow; with `--instructions` the
+instructions in place of the seconds, from one run each. Exit status 1 where the program says something else than it
+should.
 """
 import os
 import random
@@ -21,6 +22,8 @@ import resource
 import subprocess
 import sys
 import tempfile
+
+from instructions import counted
 
 TOP = os.path.dirname(os.path.dirname(os.path.abspath(__file__)))
 PROGRAM = os.path.join(TOP, 'crates', 'path_cases', 'out', 'path_cases')
@@ -123,35 +126,45 @@ def processor_seconds():
     return used.ru_utime + used.ru_stime
 
 
-def run(shapes, data, asked):
-    """The last line that the program says of the graphs, and the seconds that it takes."""
+def timed(folder):
+    """A run over the case, and the fewest seconds of some."""
+    taken = []
+    for _ in range(RUNS):
+        before = processor_seconds()
+        done = subprocess.run([PROGRAM, 'case.txt'], cwd=folder, capture_output=True, check=False)
+        taken.append(processor_seconds() - before)
+    return done, min(taken)
+
+
+def run(shapes, data, asked, counts):
+    """The last line that the program says of the graphs, and the seconds or the instructions that it takes."""
     with tempfile.TemporaryDirectory() as folder:
         with open(os.path.join(folder, 'case.txt'), 'w', encoding='utf-8') as out:
             out.writelines(['== case\n', *shapes, '-- data\n', *data, '-- count\n', *asked])
-        taken = []
-        for _ in range(RUNS):
-            before = processor_seconds()
-            done = subprocess.run([PROGRAM, 'case.txt'], cwd=folder, capture_output=True, check=False)
-            taken.append(processor_seconds() - before)
+        done, taken = counted([PROGRAM, 'case.txt'], folder) if counts else timed(folder)
     said = done.stdout if done.returncode == 0 else done.stderr
-    return said.decode('utf-8', 'replace').strip().split('\n')[-1].strip(), min(taken)
+    return said.decode('utf-8', 'replace').strip().split('\n')[-1].strip(), taken
 
 
-def measure(kind, count):
-    """The triples of a kind at this size, the seconds beyond reading, and whether the answer is right."""
+def measure(kind, count, counts):
+    """The triples of a kind at this size, what it takes beyond reading, and whether the answer is right."""
     shapes, data, start, wanted = KINDS[kind][0](count)
     asked = [f'-- from {start}\n'] if start else []
-    _, reading = run([], data, [])
-    said, seconds = run(shapes, data, asked)
+    _, reading = run([], data, [], counts)
+    said, taken = run(shapes, data, asked, counts)
     right = said.endswith(f': count {wanted}')
     note = '' if right else f', BUT WANTED {wanted}'
-    times = f'{seconds:.3f} s, of which reading {reading:.3f} s'
+    unit = 'million instructions' if counts else 's'
+    scale, digits = (1_000_000, 1) if counts else (1, 3)
+    times = f'{taken / scale:.{digits}f} {unit}, of which reading {reading / scale:.{digits}f} {unit}'
     print(f'{kind}, {len(data)} triples: {times}, said {said}{note}', flush=True)
-    return len(data), max(seconds - reading, 0.001), right
+    return len(data), max(taken - reading, 0.001), right
 
 
 def main():
-    kinds = sys.argv[1:] or list(KINDS)
+    words = sys.argv[1:]
+    counts = words[:1] == ['--instructions']
+    kinds = words[counts:] or list(KINDS)
     if any(kind not in KINDS for kind in kinds):
         sys.exit(__doc__)
     if not os.path.exists(PROGRAM):
@@ -159,10 +172,10 @@ def main():
     status = 0
     for kind in kinds:
         size = KINDS[kind][1]
-        few, short, first = measure(kind, size // 10)
-        many, long, second = measure(kind, size)
+        few, short, first = measure(kind, size // 10, counts)
+        many, long, second = measure(kind, size, counts)
         status = status if first and second else 1
-        print(f'{kind}: {many / few:.0f} times the triples, beyond reading {long / short:.1f} times the seconds')
+        print(f'{kind}: {many / few:.0f} times the triples, beyond reading {long / short:.1f} times as much')
     return status
 
 
