@@ -2,7 +2,7 @@
 """atoms_oracle.py SEED COUNT: tries the meaning of atoms (repair_problem/specs/Meaning and ConstraintFacts, read word by word) against what atoms come
 down to (the table of parts), on drawn problems: each atom has the truth of its parts in each edited graph, and what is no atom and stands in a list of
 parts is false. Paths are single predicates, inverses and stars; shapes are drawn directly, without a shapes graph."""
-import itertools, random, sys
+import random, sys
 
 TYPE, SUB = 'type', 'sub'
 

@@ -2,7 +2,7 @@
 """path_parts_oracle.py CASES: prints what repair_cases has to print for a text of cases, by its own reading of the rules:
 relations are sets of pairs of terms. With --draw SEED COUNT it writes a text of drawn cases instead, and with --check it
 also tries each atom against its parts in every edited graph (or in 64 drawn ones)."""
-import itertools, random, re, sys
+import random, re, sys
 
 RDF = 'http://www.w3.org/1999/02/22-rdf-syntax-ns#'
 RDFS = 'http://www.w3.org/2000/01/rdf-schema#'
