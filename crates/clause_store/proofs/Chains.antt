@@ -5,7 +5,7 @@ use Rattle.clause_store.specs.declared.lit.Lit.{Lit}
 use Rattle.clause_store.specs.Clauses.{has}
 use Rattle.clause_store.specs.Chained.{LitSet, ClashesOnce, union, without, ResolvesTo, Derives}
 
-resolves-more : (cs : List (List Lit)) (ids : List ℕ) (a c : LitSet) (j : ℕ) (b : List Lit) (v : ℕ) → ResolvesTo cs a ids c → slice_get cs j ≡ Some b → ClashesOnce c (has b) v → ResolvesTo cs a (ids ++ j ∷ []) (without (union c (has b)) v)
+pub resolves-more : (cs : List (List Lit)) (ids : List ℕ) (a c : LitSet) (j : ℕ) (b : List Lit) (v : ℕ) → ResolvesTo cs a ids c → slice_get cs j ≡ Some b → ClashesOnce c (has b) v → ResolvesTo cs a (ids ++ j ∷ []) (without (union c (has b)) v)
 resolves-more cs [] a c j b v e get once = (b, v, get, subst (λ x. ClashesOnce x (has b) v) (sym e) once, ap (λ x. without (union x (has b)) v) e)
 resolves-more cs (i ∷ ids) a c j b v h get once = (h.0, h.1, h.2, h.3, resolves-more cs ids (without (union a (has h.0)) h.1) c j b v h.4 get once)
 

@@ -39,7 +39,7 @@ pub opposite_twice : (l : Lit) → opposite (opposite l) ≡ l
 opposite_twice l = lit_of l.var l.var (not (not l.positive)) l.positive refl (not_not l.positive)
 
 -- two literals of one variable are equal or opposite
-same_or_opposite : (l m : Lit) → l.var ≡ m.var → (l ≡ m) ⊎ (l ≡ opposite m)
+pub same_or_opposite : (l m : Lit) → l.var ≡ m.var → (l ≡ m) ⊎ (l ≡ opposite m)
 same_or_opposite l m e = split l.positive m.positive refl refl
   where
     split : (p q : Bool) → l.positive ≡ p → m.positive ≡ q → (l ≡ m) ⊎ (l ≡ opposite m)

@@ -1,6 +1,1 @@
-pub mod Found
-pub mod Grown
-pub mod Listed
-pub mod Moving
 pub mod Refused
-pub mod Unite

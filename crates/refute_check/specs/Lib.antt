@@ -1,3 +1,2 @@
 -- Steps of resolution: what contracts say of them.
-pub mod Marked
 pub mod Refusals

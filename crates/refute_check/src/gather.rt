@@ -1,14 +1,12 @@
 ghost use Rattle.std.specs.Prelude.{◌≡◌, ◌<◌, length, IfOk, OnOk, IfErr, IsTrue};
 ghost use Rattle.clause_store.specs.Clauses.{has, is_clause, is_within, are_within};
 ghost use Rattle.clause_store.specs.Chained.{Derives, empty_set};
-ghost use Rattle.refute_check.specs.Marked.{AreListed, lits_at, marked_set};
+ghost use Rattle.literal_signs.specs.Marked.{AreListed, lits_at, marked_set};
 ghost use Rattle.refute_check.specs.Refusals.{IsRefusal};
 
-use crate::marks::Sign;
 use crate::refusal::StepRefusal;
-use crate::resolve::{resolve, unite};
-use crate::touched::{clear, list_lits, take_lits};
 use clause_store::{ClauseStore, Lit};
+use literal_signs::{Sign, clear, list_lits, resolve, take_lits, unite};
 use std::alloc::Global;
 
 /// Marks the last resolvent of the clauses of the ids, in order.

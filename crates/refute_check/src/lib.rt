@@ -5,8 +5,6 @@ mod check;
 mod gather;
 mod marks;
 mod refusal;
-mod resolve;
-mod touched;
 
 pub use check::{check_step, is_refuted};
 pub use marks::Marks;

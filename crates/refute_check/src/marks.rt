@@ -1,18 +1,10 @@
-ghost use Rattle.std.specs.Prelude.{◌≡◌, max, length, OnOk, OnErr};
-ghost use Rattle.refute_check.specs.Marked.{marked_set};
+ghost use Rattle.std.specs.Prelude.{◌≡◌, max, OnOk, OnErr};
 
 use clause_store::Lit;
+use literal_signs::{Sign, grow};
 use rdf_terms::OutOfMemory;
 use std::alloc::Global;
 use std::marker::Model;
-
-/// Which literal of a variable stands in a set of literals, if one does.
-#[derive(Clone, Copy, Debug, PartialEq, Eq)]
-pub(crate) enum Sign {
-    Absent,
-    Positive,
-    Negative,
-}
 
 /// Room in which steps are checked. Contracts see it as the number of variables for which it is reserved.
 ///
@@ -28,7 +20,7 @@ pub struct Marks {
 impl Model for Marks {
     ghost use Rattle.std.specs.Prelude.{◌≡◌, ℕ, length};
     ghost use Rattle.clause_store.specs.Chained.{empty_set};
-    ghost use Rattle.refute_check.specs.Marked.{marked_set};
+    ghost use Rattle.literal_signs.specs.Marked.{marked_set};
 
     ghost Value = { ℕ };
 
@@ -57,17 +49,4 @@ impl Marks {
     {
         grow(&mut self.signs, vars)
     }
-}
-
-/// Adds signs until there are `vars`. Those that are added are absent, so the set is as before.
-fn grow(signs: &mut Vec<Sign>, vars: usize) -> Result<(), OutOfMemory>
-    ensures ok { OnOk result (length signs.new.items ≡ max (length signs.old.items) vars) }
-    ensures err { OnErr result (length signs.new.items ≡ length signs.old.items) }
-    ensures marked { marked_set signs.new.items ≡ marked_set signs.old.items }
-{
-    if vars <= signs.len() {
-        return Ok(());
-    }
-    signs.resize(vars, Sign::Absent)?;
-    Ok(())
 }

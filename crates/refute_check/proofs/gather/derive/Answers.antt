@@ -1,7 +1,7 @@
 use Rattle.std.proofs.Common.{rules, ◌≡◌}
 use Rattle.std.proofs.lemmas.Result.{err_from_is_err_and}
-use Rattle.refute_check.specs.Marked.{lits_at}
-use Rattle.refute_check.proofs.Listed.{lits_within}
+use Rattle.literal_signs.specs.Marked.{lits_at}
+use Rattle.literal_signs.proofs.Listed.{lits_within}
 use Rattle.refute_check.proofs.gather.derive.Goals as goal
 
 pub returns-in_err-list_lits-clause-err : goal.returns-in_err-list_lits-clause-err

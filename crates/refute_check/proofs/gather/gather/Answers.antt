@@ -1,5 +1,5 @@
 use Rattle.std.proofs.lemmas.Result.{err_from_is_err_and}
-use Rattle.refute_check.proofs.Listed.{lits_within}
+use Rattle.literal_signs.proofs.Listed.{lits_within}
 use Rattle.refute_check.proofs.gather.gather.Goals as goal
 
 pub take_lits-requires-clause-within : goal.take_lits-requires-clause-within

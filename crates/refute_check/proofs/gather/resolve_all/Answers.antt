@@ -3,8 +3,8 @@ use Rattle.clause_store.specs.Clauses.{has, opposite}
 use Rattle.clause_store.specs.Chained.{empty_set, union}
 use Rattle.clause_store.proofs.Chains.{derives-more, derives-one}
 use Rattle.clause_store.proofs.Sets.{never, within_get}
-use Rattle.refute_check.specs.Marked.{AreListed, lits_at, marked_set}
-use Rattle.refute_check.proofs.Listed.{begun_listed}
+use Rattle.literal_signs.specs.Marked.{AreListed, lits_at, marked_set}
+use Rattle.literal_signs.proofs.Listed.{begun_listed}
 use Rattle.refute_check.proofs.Refused.{unknown_at, no_single_at}
 use Rattle.refute_check.proofs.gather.resolve_all.Goals as goal
 

@@ -1,6 +1,6 @@
 use Rattle.std.proofs.Common.{◌≡◌, ◌<◌, take, length}
 use Rattle.clause_store.specs.Chained.{Derives}
-use Rattle.refute_check.specs.Marked.{marked_set}
+use Rattle.literal_signs.specs.Marked.{marked_set}
 use Rattle.refute_check.proofs.gather.resolve_all.Given as goal
 
 abbrev pub invariant-loop-k : goal.invariant-loop-k

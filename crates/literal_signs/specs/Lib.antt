@@ -1,0 +1,3 @@
+-- Sets of literals, kept as a sign for each variable.
+pub mod Marked
+pub mod Moves

@@ -1,5 +1,0 @@
-use Rattle.refute_check.proofs.Moving.{IsMoved}
-use Rattle.refute_check.proofs.touched.take_lits.Given as goal
-
-abbrev pub invariant-loop-lit : goal.invariant-loop-lit
-invariant-loop-lit l = IsMoved l.fn.signs l.touched l.lit-index l.signs l.lits.items

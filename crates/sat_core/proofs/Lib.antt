@@ -1,0 +1,9 @@
+pub mod Back
+pub mod Cut
+pub mod Entries
+pub mod Further
+pub mod Learned
+pub mod OpenLits
+pub mod Pushed
+pub mod Reserved
+pub mod Whole
