@@ -1,5 +1,5 @@
 ghost use Rattle.std.specs.Prelude.{◌≡◌, map, string_bytes, IfOk, IfErr};
-ghost use Rattle.command_words.specs.Words.{words_of, validate_of, explain_of, apply_of};
+ghost use Rattle.command_words.specs.Words.{words_of, validate_of, explain_of, apply_of, check_of};
 ghost use Rattle.command_words.specs.WordsRefusal.{IsRefusedFor};
 ghost use Rattle.command_words.specs.declared.words.WordsRefusal.TheVariants.{OutOfMemory as NoCommand};
 
@@ -27,6 +27,13 @@ pub enum Command {
         present: Text,
         document: Text,
     },
+    /// Judge a saved document, by the names of the three documents that it speaks of and its own.
+    Check {
+        shapes: Text,
+        present: Text,
+        offered: Text,
+        document: Text,
+    },
 }
 
 /// Why no command was read.
@@ -48,8 +55,8 @@ impl From<OutOfMemory> for WordsRefusal {
     }
 }
 
-/// Reads the words after the program's name: `validate SHAPES DATA`, `explain SHAPES DATA OFFERED` or
-/// `apply DATA DOCUMENT`.
+/// Reads the words after the program's name: `validate SHAPES DATA`, `explain SHAPES DATA OFFERED`,
+/// `apply DATA DOCUMENT` or `check SHAPES DATA OFFERED DOCUMENT`.
 ///
 /// `Word` comes exactly where the words are no command.
 pub fn read_words(alloc: Global, words: &[String]) -> Result<Command, WordsRefusal>
@@ -63,6 +70,7 @@ pub fn read_words(alloc: Global, words: &[String]) -> Result<Command, WordsRefus
         "validate" => read_validate(alloc, names),
         "explain" => read_explain(alloc, names),
         "apply" => read_apply(alloc, names),
+        "check" => read_check(alloc, names),
         _ => Err(WordsRefusal::Word { position: 0 }),
     }
 }
@@ -112,6 +120,24 @@ fn read_apply(alloc: Global, names: &[String]) -> Result<Command, WordsRefusal>
         }),
         _ => Err(WordsRefusal::Word {
             position: names.len().min(2) + 1,
+        }),
+    }
+}
+
+/// Reads the words after `check`.
+fn read_check(alloc: Global, names: &[String]) -> Result<Command, WordsRefusal>
+    ensures ok { IfOk result (λ command. check_of (map string_bytes names.now) ≡ Ok command) }
+    ensures err { IfErr result (λ refusal. IsRefusedFor (check_of (map string_bytes names.now)) refusal) }
+{
+    match names {
+        [shapes, present, offered, document] => Ok(Command::Check {
+            shapes: Text::from_str(alloc, shapes.as_str())?,
+            present: Text::from_str(alloc, present.as_str())?,
+            offered: Text::from_str(alloc, offered.as_str())?,
+            document: Text::from_str(alloc, document.as_str())?,
+        }),
+        _ => Err(WordsRefusal::Word {
+            position: names.len().min(4) + 1,
         }),
     }
 }

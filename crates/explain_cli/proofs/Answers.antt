@@ -1,7 +1,8 @@
 -- What was made of the documents is the answer of the command, and an error of the input is named in the notes.
-use Rattle.std.proofs.Common.{IsTrue, ◌≡◌, ◌≢◌, ◌↔◌, List, [], ◌∷◌, ℕ, ◌<◌, Option, None, Some, Result, Ok, Err, refl, sym, ap, subst, inl, inr}
+use Rattle.std.proofs.Common.{IsTrue, ◌≡◌, ◌≢◌, ◌↔◌, List, [], ◌∷◌, ℕ, ◌<◌, Option, None, Some, Result, Ok, Err, OnOk, IfErr, refl, sym, ap, ◌∙◌, subst, ◌⊎◌, inl, inr}
 use Rattle.rdf_terms.specs.declared.term.Scope.TheVariants.{Data as OfData, Shapes as OfShapes}
-use Rattle.rdf_terms.specs.Graph.{Graph, empty}
+use Rattle.rdf_terms.specs.Graph.{Graph, empty, of_list, without}
+use Rattle.repair_problem.specs.Setting.{Setting}
 use Rattle.rdf_terms.specs.declared.term.Term.{Term}
 use Rattle.ntriples_io.specs.RoundTrip.{HasScope}
 use Rattle.ntriples_io.specs.Text.{AreLawful}
@@ -26,7 +27,11 @@ use Rattle.proof_documents.specs.Document.{Document as Claim, IsWellFormed}
 use Rattle.proof_documents.specs.Applying.{Applies, Edits}
 use Rattle.proof_documents.proofs.Applied.{edited_lawful}
 use Rattle.command_words.specs.declared.words.Command.{Command}
-use Rattle.command_words.specs.declared.words.Command.TheVariants.{Validate, Explain, Apply}
+use Rattle.command_words.specs.declared.words.Command.TheVariants.{Validate, Explain, Apply, Check}
+use Rattle.certificates.specs.declared.refusal.CheckRefusal.{CheckRefusal}
+use Rattle.certificates.specs.declared.refusal.CheckRefusal.TheVariants as reason
+use Rattle.certificates.specs.Checks.{IsVerdict, IsRejection, IsNotAccepted, IsAcceptedDocument}
+use Rattle.certificates.specs.Shown.{IsShown}
 use Rattle.document_input.specs.declared.error.InputError.{InputError}
 use Rattle.document_input.specs.declared.error.InputError.TheVariants.{Unread, Refused, OutOfMemory}
 use Rattle.document_input.specs.declared.refusal.ShapesRefusal.TheVariants.{NotReadYet}
@@ -42,10 +47,11 @@ use Rattle.explain_cli.specs.declared.report.Report.{Report}
 use Rattle.explain_cli.specs.declared.status.Status.TheVariants.{Done, No, TooMany}
 use Rattle.explain_cli.specs.Answer.{IsAnswerIn, CommandMeans}
 use Rattle.explain_cli.specs.ClaimText.{claim_of_pair, claim_of_none}
-use Rattle.explain_cli.specs.Commands.{IsErrorOf, IsErrorReport, AnswersCommand, Makes, ReportsRows, IsValidationReport, ReportsValidation, ReportsExplanation, IsEditedReport, ReportsEdited}
-use Rattle.explain_cli.specs.Input.{Contents, documents_of, AreGraphsOf, AreComparable, IsUnfitInput, Names, names, Graphs, AreHeld, AreApplied, IsUnfitFor, RefusesDocument, RefusesIn}
+use Rattle.explain_cli.specs.Commands.{IsErrorOf, IsErrorReport, AnswersCommand, Makes, ReportsRows, IsValidationReport, ReportsValidation, ReportsExplanation, IsEditedReport, ReportsEdited, IsVerdictReport, IsCheckReport, ReportsVerdict}
+use Rattle.explain_cli.specs.Input.{Contents, documents_of, AreGraphsOf, AreComparable, IsUnfitInput, Names, names, Graphs, AreHeld, AreApplied, IsUnfitFor, AreJudged, graphs_of, setting_of, RefusesDocument, RefusesIn}
 use Rattle.explain_cli.specs.Notes.{too_many_line}
 use Rattle.explain_cli.specs.Reports.{answer, note}
+use Rattle.explain_cli.specs.Verdicts.{Accepts, Rejects, Judges}
 
 -- ---- every command
 
@@ -77,19 +83,18 @@ error_answers command shelf OutOfMemory report cause texts = absurd texts
 -- ---- validate
 
 -- what was found of shapes that were read of a graph
-pub validation_of : (s t g o : Graph) (rows : List ResultRow) (report : Report) → (t ≡ s) × IsInProfile s → o ≡ empty → ((y : Term) → IsCompared t g o y → ¬ (IsTrue (is_out_of_reach y))) → AreRowsOf (IsResult t g) rows → IsStrictlySortedBy row_cmp rows
+pub validation_of : (s t g o : Graph) (rows : List ResultRow) (report : Report) → (t ≡ s) × IsInProfile s → o ≡ empty → AreComparable s g o → AreRowsOf (IsResult t g) rows → IsStrictlySortedBy row_cmp rows
     → (rows ≢ []) ↔ ¬ (Conforms t g) → ReportsRows rows report → IsValidationReport s g report
 validation_of s t g o rows report is none comparable exact sorted some texts =
-    subst (λ (u : Graph). IsValidationReport u g report) is.0
-    (record {
-      profile = subst IsInProfile (sym is.0) is.1;
-      comparable = subst (λ (h : Graph). (y : Term) → IsCompared t g h y → ¬ (IsTrue (is_out_of_reach y))) none comparable;
+    record {
+      profile = is.1;
+      comparable = subst (λ (h : Graph). AreComparable s g h) none comparable;
       rows = rows;
-      exact = exact;
+      exact = subst (λ (u : Graph). AreRowsOf (IsResult u g) rows) is.0 exact;
       sorted = sorted;
-      some = some;
+      some = subst (λ (u : Graph). (rows ≢ []) ↔ ¬ (Conforms u g)) is.0 some;
       texts = texts;
-    })
+    }
 
 -- the graphs are those of the documents, where the shelf tells
 pub record ReadsTwo (held : Held) (s p : List ℕ) (t g : Graph) : Type 0 where
@@ -102,7 +107,7 @@ are_validated held s p t g reads = record { shapes = reads.shapes; present = rea
 no_rows : (t g : Graph) → AreRowsOf (IsResult t g) [] → HasNoResult t g
 no_rows t g exact h = in_none h.0 ((exact h.0).1 h.1)
 
-validated : (s p : List ℕ) (held : Held) (t g : Graph) (report : Report) (rows : List ResultRow) → ReadsTwo held s p t g → IsInProfile t → AreComparable t g → AreRowsOf (IsResult t g) rows → IsStrictlySortedBy row_cmp rows → (rows ≢ []) ↔ ¬ (Conforms t g) → ReportsRows rows report
+validated : (s p : List ℕ) (held : Held) (t g : Graph) (report : Report) (rows : List ResultRow) → ReadsTwo held s p t g → IsInProfile t → AreComparable t g empty → AreRowsOf (IsResult t g) rows → IsStrictlySortedBy row_cmp rows → (rows ≢ []) ↔ ¬ (Conforms t g) → ReportsRows rows report
     → IsAnswerIn (Validate s p) held report
 validated s p None t g report [] reads profile comparable exact sorted some texts = inl (ap (λ (r : Report). r.status) texts)
 validated s p None t g report (r ∷ rows) reads profile comparable exact sorted some texts = inr (inl (ap (λ (r : Report). r.status) texts))
@@ -111,7 +116,7 @@ validated s p (Some held) t g report [] reads profile comparable exact sorted so
 validated s p (Some held) t g report (r ∷ rows) reads profile comparable exact sorted some texts =
     inr (record { shapes = t; present = g; input = record { documents = are_validated held s p t g reads; profile = profile; comparable = comparable }; rows = r ∷ rows; some = λ e. cc; exact = exact; sorted = sorted; violated = some.0 (λ e. cc); texts = texts })
 
-unfit_input : (s p : List ℕ) (held : Held) (t g : Graph) (refusal : InputRefusal) → ReadsTwo held s p t g → IsUnfitInput t g refusal → RefusesIn (Validate s p) held refusal
+unfit_input : (s p : List ℕ) (held : Held) (t g : Graph) (refusal : InputRefusal) → ReadsTwo held s p t g → IsUnfitInput t g empty refusal → RefusesIn (Validate s p) held refusal
 unfit_input s p None t g refusal reads unfit = tt
 unfit_input s p (Some held) t g refusal reads unfit = inr (record { shapes = t; present = g; documents = are_validated held s p t g reads; unfit = unfit })
 
@@ -199,3 +204,62 @@ applies p d shelf g claim (Ok made) (Err error) reads edits is = subst (IsErrorO
 applies p d shelf g claim (Err ClaimsNoPair) result reads fault is = refused (Apply p d) shelf _ result (unfit p d shelf.before.held g claim NotOfPair reads fault) is
 applies p d shelf g claim (Err (OutsideData number)) result reads fault is = refused (Apply p d) shelf _ result (unfit p d shelf.before.held g claim (PairOutside number) reads fault) is
 applies p d shelf g claim (Err NoMemory) result reads fault is = subst (AnswersCommand (Apply p d) shelf) (sym is) tt
+
+-- ---- check
+
+-- the graphs and the claim are those of the documents, where the shelf tells
+pub record ReadsJudged (held : Held) (n : Names) (d : List ℕ) (g : Graphs) (claim : Claim) : Type 0 where
+  pub graphs : ReadsGraphs held n g
+  pub claimed : HoldsIn (IsClaim claim) held d
+
+are_judged : (held : Contents) (n : Names) (d : List ℕ) (g : Graphs) (claim : Claim) → ReadsJudged (Some held) n d g claim → AreJudged n d held g claim
+are_judged held n d g claim reads = record { graphs = are_held held n g reads.graphs; claimed = reads.claimed }
+
+-- the report of a verdict is that of the claim
+pub judges : (s : Setting) (claim : Claim) (verdict : Result (Unit {0}) CheckRefusal) (report : Report) → IsVerdict s claim verdict → OnOk verdict (IsShown s (of_list claim.adds) (of_list claim.deletes) claim.proof)
+    → IfErr verdict (λ e. IsNotAccepted s claim e) → IsVerdictReport claim.proof.claim verdict report → Judges s claim report
+judges s claim (Ok u) report accepted shown not_accepted texts = inl (record { accepted = accepted; shown = shown; texts = texts })
+judges s claim (Err e) report first shown not_accepted texts =
+    inr (record { reason = e; stated = texts.0; first = first; not_accepted = not e texts.0 not_accepted; texts = texts.1 })
+  where
+    not : (e : CheckRefusal) → e ≢ reason.OutOfMemory → IsNotAccepted s claim e → ¬ (IsAcceptedDocument s claim)
+    not (reason.PairOutside n) stated h = h
+    not (reason.NotBelow n) stated h = h
+    not (reason.NotConforming n) stated h = h
+    not (reason.BadRule n) stated h = h
+    not (reason.BadStep n) stated h = h
+    not reason.WrongClaim stated h = h
+    not reason.NotEmpty stated h = h
+    not reason.OutOfMemory stated h = absurd (stated refl)
+
+-- the report of a problem that was made of the graphs
+pub check_report_of : (s p o t : Graph) (problem : Setting) (claim : Claim) (verdict : Result (Unit {0}) CheckRefusal) (report : Report) → (t ≡ s) × IsInProfile s → AreComparable s p o → problem.shapes ≡ t → problem.present ≡ p → problem.offers ≡ without o p
+    → IsVerdict problem claim verdict → OnOk verdict (IsShown problem (of_list claim.adds) (of_list claim.deletes) claim.proof) → IfErr verdict (λ e. IsNotAccepted problem claim e) → IsVerdictReport claim.proof.claim verdict report → IsCheckReport (graphs_of s p o) claim report
+check_report_of s p o t problem claim verdict report is comparable shapes present offers judged shown not_accepted texts =
+    let shapes_are : problem.shapes ≡ s = shapes ∙ is.0 in
+    let same : problem ≡ setting_of (graphs_of s p o) = λ i. record { shapes = shapes_are i; present = present i; offers = offers i } in
+    record { profile = is.1; comparable = comparable; verdict = subst (λ (q : Setting). Judges q claim report) same (judges problem claim verdict report judged shown not_accepted texts) }
+
+check_status : (s : Setting) (claim : Claim) (report : Report) → Judges s claim report → (report.status ≡ Done) ⊎ ((report.status ≡ No) ⊎ ⊥)
+check_status s claim report (inl accepts) = inl (ap (λ (r : Report). r.status) accepts.texts)
+check_status s claim report (inr rejects) = inr (inl (ap (λ (r : Report). r.status) rejects.texts))
+
+judged : (s p o d : List ℕ) (held : Held) (g : Graphs) (claim : Claim) (report : Report) → ReadsJudged held (names s p o) d g claim → IsCheckReport g claim report → IsAnswerIn (Check s p o d) held report
+judged s p o d None g claim report reads is = check_status _ _ report is.verdict
+judged s p o d (Some held) g claim report reads is =
+    record {
+      graphs = g;
+      claim = claim;
+      input = record { documents = are_judged held (names s p o) d g claim reads; profile = is.profile; comparable = is.comparable };
+      verdict = is.verdict;
+    }
+
+unfit_graphs : (s p o d : List ℕ) (held : Held) (g : Graphs) (claim : Claim) (refusal : InputRefusal) → ReadsJudged held (names s p o) d g claim → IsUnfitInput g.shapes g.present g.offered refusal → RefusesIn (Check s p o d) held refusal
+unfit_graphs s p o d None g claim refusal reads unfit = tt
+unfit_graphs s p o d (Some held) g claim refusal reads unfit = inr (record { graphs = g; claim = claim; documents = are_judged held (names s p o) d g claim reads; unfit = unfit })
+
+pub checks : (s p o d : List ℕ) (shelf : Change ShelfTold) (g : Graphs) (claim : Claim) (result : Result Report InputError) → ReadsJudged shelf.before.held (names s p o) d g claim → ReportsVerdict g claim result → AnswersCommand (Check s p o d) shelf result
+checks s p o d shelf g claim (Ok report) reads is = judged s p o d shelf.before.held g claim report reads is
+checks s p o d shelf g claim (Err (Unread role)) reads is = absurd is
+checks s p o d shelf g claim (Err (Refused refusal)) reads is = unfit_graphs s p o d shelf.before.held g claim refusal reads is
+checks s p o d shelf g claim (Err OutOfMemory) reads is = tt

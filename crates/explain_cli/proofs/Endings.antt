@@ -1,8 +1,10 @@
 -- The status of what a call means to write, and how a call ends.
 use Rattle.std.proofs.Common.{◌≡◌, ◌≢◌, ℕ, ◌⊎◌, inl, inr, List, [], ◌∷◌, None, Some, Result, Ok, sym, ap, ◌∙◌, subst}
 use Rattle.shelf_io.specs.Held.{Held}
+use Rattle.repair_problem.specs.Setting.{Setting}
+use Rattle.proof_documents.specs.Document.{Document as Claim}
 use Rattle.command_words.specs.declared.words.Command.{Command}
-use Rattle.command_words.specs.declared.words.Command.TheVariants.{Validate, Explain, Apply}
+use Rattle.command_words.specs.declared.words.Command.TheVariants.{Validate, Explain, Apply, Check}
 use Rattle.command_words.specs.Words.{words_of}
 use Rattle.document_input.specs.Told.{Change, ShelfTold}
 use Rattle.explain_cli.specs.declared.report.Report.{Report}
@@ -12,6 +14,7 @@ use Rattle.explain_cli.specs.Answer.{IsOneOf, statuses_of, IsAnswer, IsAnswerIn,
 use Rattle.explain_cli.specs.Causes.{cut_short}
 use Rattle.explain_cli.specs.Input.{Contents, Refuses, RefusesIn}
 use Rattle.explain_cli.specs.Outcome.{SinkTold, Outcome}
+use Rattle.explain_cli.specs.Verdicts.{Judges}
 use Rattle.explain_cli.proofs.Ready.{IsReady}
 
 -- ---- the statuses of answers
@@ -27,6 +30,13 @@ own_statuses (Validate s p) status (inr (inr e)) = absurd e
 own_statuses (Explain s p o) status is = is
 own_statuses (Apply p d) status (inl e) = inl e
 own_statuses (Apply p d) status (inr e) = absurd e
+own_statuses (Check s p o d) status (inl e) = inl e
+own_statuses (Check s p o d) status (inr (inl e)) = inr (inl e)
+own_statuses (Check s p o d) status (inr (inr e)) = absurd e
+
+judged_status : (s : Setting) (claim : Claim) (report : Report) → Judges s claim report → IsOneOf (Done ∷ No ∷ []) report.status
+judged_status s claim report (inl accepts) = inl (ap (λ (r : Report). r.status) accepts.texts)
+judged_status s claim report (inr rejects) = inr (inl (ap (λ (r : Report). r.status) rejects.texts))
 
 pub answer_status : (command : Command) (held : Contents) (report : Report) → IsAnswer command held report → IsOneOf (statuses_of command) report.status
 answer_status (Validate s p) held report (inl none) = inl (ap (λ (r : Report). r.status) none.texts)
@@ -35,6 +45,7 @@ answer_status (Explain s p o) held report (inl pair) = inl (ap (λ (r : Report).
 answer_status (Explain s p o) held report (inr (inl none)) = inr (inl (ap (λ (r : Report). r.status) none.texts))
 answer_status (Explain s p o) held report (inr (inr many)) = inr (inr (inl (ap (λ (r : Report). r.status) many.texts)))
 answer_status (Apply p d) held report written = inl (ap (λ (r : Report). r.status) written.texts)
+answer_status (Check s p o d) held report judged = judged_status _ _ report judged.verdict
 
 -- an answer shows that the input is in order
 pub answer_ready : (command : Command) (held : Contents) (report : Report) → IsAnswer command held report → IsReady command held
@@ -45,6 +56,7 @@ answer_ready (Explain s p o) held report (inr (inl none)) = (none.graphs, none.i
 answer_ready (Explain s p o) held report (inr (inr many)) = (many.graphs, many.input)
 answer_ready (Apply p d) held report written =
     record { present = written.present; claim = written.claim; documents = written.documents; made = written.made; edits = written.edits }
+answer_ready (Check s p o d) held report judged = (judged.graphs, judged.claim, judged.input)
 
 -- ---- every command
 

@@ -6,17 +6,20 @@ use Rattle.shelf_io.specs.Held.{Held}
 use Rattle.thin_repair.specs.Answer.{candidate_count}
 use Rattle.thin_repair.specs.Conformance.{Conforms}
 use Rattle.repair_problem.specs.Repair.{NoneExplains}
+use Rattle.proof_documents.specs.Document.{Document as Claim}
+use Rattle.certificates.specs.Checks.{IsAcceptedDocument}
 use Rattle.command_words.specs.declared.words.Command.{Command}
-use Rattle.command_words.specs.declared.words.Command.TheVariants.{Validate, Explain, Apply}
+use Rattle.command_words.specs.declared.words.Command.TheVariants.{Validate, Explain, Apply, Check}
 use Rattle.command_words.specs.Words.{words_of}
 use Rattle.document_input.specs.Told.{Change, ShelfTold}
 use Rattle.document_input.proofs.Errors.{none_unread}
+use Rattle.document_input.proofs.Unrefused.{one_claim}
 use Rattle.explain_cli.specs.declared.report.Report.{Report}
 use Rattle.explain_cli.specs.declared.status.Status.{Status}
 use Rattle.explain_cli.specs.declared.status.Status.TheVariants.{No, Usage, Input, Write, Memory, TooMany, Spent}
 use Rattle.explain_cli.specs.Answer.{IsOneOf, statuses_of, IsAnswerIn, ClaimsPair, CommandMeans, MeansFor}
-use Rattle.explain_cli.specs.Causes.{cut_short, HasViolation, IsTooMuch, HasNoPair, CommandCauses, InputCauses, IsUndisturbed, Causes}
-use Rattle.explain_cli.specs.Input.{Contents, documents_of, Names, names, Graphs, IsInput, Refuses, RefusesIn}
+use Rattle.explain_cli.specs.Causes.{cut_short, HasViolation, IsTooMuch, HasNoPair, HasRejection, CommandCauses, InputCauses, IsUndisturbed, Causes}
+use Rattle.explain_cli.specs.Input.{Contents, documents_of, Names, names, Graphs, IsInput, setting_of, Refuses, RefusesIn}
 use Rattle.explain_cli.specs.Outcome.{SinkTold, Outcome}
 use Rattle.explain_cli.proofs.Endings.{own, own_statuses, answer_status, answer_ready, not_own, not_cut, not_answered, EndedAs, ended, Settled, settled}
 use Rattle.explain_cli.proofs.Ready.{one_input, one_validated, ready_unrefused}
@@ -132,11 +135,36 @@ none_always s p o held status (inr (inl end)) none =
     ]
 none_always s p o held status (inr (inr cut)) none = inr cut
 
+-- ---- the status of `check`
+
+rejected_only : (s p o d : List ℕ) (held : Contents) (status : Status) → Settled (Check s p o d) held status → status ≡ No → HasRejection (names s p o) d held
+rejected_only s p o d held status (inl refused) e = let other = refused.0 in absurd cc
+rejected_only s p o d held status (inr (inl end)) e =
+    let is : No ≡ end.0.status = sym e ∙ end.1 in
+    elim end.2.verdict [
+      | inl accepts ↦ let other = ap (λ (r : Report). r.status) accepts.texts in absurd cc
+      | inr rejects ↦ (end.2.graphs, end.2.claim, end.2.input, rejects.not_accepted)
+    ]
+rejected_only s p o d held status (inr (inr cut)) e = absurd (not_cut No (λ d. cc) (λ d. cc) (λ d. cc) (subst (IsOneOf cut_short) e cut))
+
+rejected_always : (s p o d : List ℕ) (held : Contents) (status : Status) → Settled (Check s p o d) held status → HasRejection (names s p o) d held → (status ≡ No) ⊎ IsOneOf cut_short status
+rejected_always s p o d held status (inl refused) rejected = absurd (ready_unrefused (Check s p o d) held (rejected.0, rejected.1, rejected.2) refused.1)
+rejected_always s p o d held status (inr (inl end)) rejected =
+    let same = one_input (names s p o) held rejected.0 end.2.graphs rejected.2.documents.graphs end.2.input.documents.graphs in
+    let same_claim = one_claim (held d) rejected.1 end.2.claim rejected.2.documents.claimed end.2.input.documents.claimed in
+    elim end.2.verdict [
+      | inl accepts ↦
+          absurd (subst (λ (g : Graphs). ¬ (IsAcceptedDocument (setting_of g) end.2.claim)) same (subst (λ (c : Claim). ¬ (IsAcceptedDocument (setting_of rejected.0) c)) same_claim rejected.3) accepts.accepted)
+      | inr rejects ↦ inl (end.1 ∙ ap (λ (r : Report). r.status) rejects.texts)
+    ]
+rejected_always s p o d held status (inr (inr cut)) rejected = inr cut
+
 own_causes : (command : Command) (held : Contents) (status : Status) → Settled command held status → CommandCauses command held status
 own_causes (Validate s p) held status end = record { only = violated_only s p held status end; always = violated_always s p held status end }
 own_causes (Explain s p o) held status end =
     (record { only = many_only s p o held status end; always = many_always s p o held status end }, record { only = none_only s p o held status end; always = none_always s p o held status end })
 own_causes (Apply p d) held status end = tt
+own_causes (Check s p o d) held status end = record { only = rejected_only s p o d held status end; always = rejected_always s p o d held status end }
 
 input_causes : (command : Command) (held : Contents) (status : Status) → Settled command held status → InputCauses command held status
 input_causes command held status end =

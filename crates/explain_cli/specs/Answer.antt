@@ -18,7 +18,7 @@ use Rattle.proof_documents.specs.Document.{Document as Claim}
 use Rattle.proof_documents.specs.Applying.{Edits}
 use Rattle.shelf_io.specs.Held.{Held}
 use Rattle.command_words.specs.declared.words.Command.{Command}
-use Rattle.command_words.specs.declared.words.Command.TheVariants.{Validate, Explain, Apply}
+use Rattle.command_words.specs.declared.words.Command.TheVariants.{Validate, Explain, Apply, Check}
 use Rattle.command_words.specs.Words.{words_of}
 use Rattle.document_input.specs.declared.role.Role.{Role}
 use Rattle.document_input.specs.declared.refusal.InputRefusal.{InputRefusal}
@@ -31,9 +31,10 @@ use Rattle.explain_cli.specs.declared.status.Status.{Status}
 use Rattle.explain_cli.specs.declared.status.Status.TheVariants.{Done, No, Usage, Input, Read, TooMany}
 use Rattle.explain_cli.specs.ClaimText.{claim_of_pair, claim_of_none}
 use Rattle.explain_cli.specs.Input.{Contents, documents_of, Names, names, Graphs, IsInput, AreApplied, RefusesIn}
-use Rattle.explain_cli.specs.Input.{IsValidationInput}
+use Rattle.explain_cli.specs.Input.{IsValidationInput, IsCheckInput, setting_of}
 use Rattle.explain_cli.specs.Notes.{usage_line, input_line, read_line, too_many_line}
 use Rattle.explain_cli.specs.Reports.{answer, note}
+use Rattle.explain_cli.specs.Verdicts.{Judges}
 
 -- the status is one of these
 abbrev pub IsOneOf : List Status → Status → Type 0
@@ -45,6 +46,7 @@ abbrev pub statuses_of : Command → List Status
 statuses_of (Validate shapes present) = Done ∷ No ∷ []
 statuses_of (Explain shapes present offered) = Done ∷ No ∷ TooMany ∷ []
 statuses_of (Apply present document) = Done ∷ []
+statuses_of (Check shapes present offered document) = Done ∷ No ∷ []
 
 -- ---- validate
 
@@ -109,6 +111,15 @@ pub record WritesEdited (data_name claim_name : List ℕ) (held : Contents) (rep
   pub texts : report ≡ answer Done (graph_text made)
   pub read_back : NtText (graph_text made) OfData made
 
+-- ---- check
+
+-- the claim is accepted, or the notes say why it is not
+pub record JudgesClaim (names : Names) (claim_name : List ℕ) (held : Contents) (report : Report) : Type 0 where
+  pub graphs : Graphs
+  pub claim : Claim
+  pub input : IsCheckInput names claim_name held graphs claim
+  pub verdict : Judges (setting_of graphs) claim report
+
 -- ---- every command
 
 -- the answers of a command to an input that is not refused
@@ -119,6 +130,8 @@ IsAnswer (Explain shapes present offered) held report =
     let n = names shapes present offered in
     ClaimsPair n held report ⊎ ClaimsNone n held report ⊎ HasTooMany n held report
 IsAnswer (Apply present document) held report = WritesEdited present document held report
+IsAnswer (Check shapes present offered document) held report =
+    JudgesClaim (names shapes present offered) document held report
 
 -- an answer, where the shelf tells what it holds; where it does not, the status alone is known
 abbrev pub IsAnswerIn : Command → Held → Report → Type 0

@@ -6,8 +6,10 @@ use Rattle.shapes_graph.specs.Conformance as shacl
 use Rattle.thin_repair.specs.Answer.{candidate_count}
 use Rattle.thin_repair.specs.Conformance.{Conforms}
 use Rattle.repair_problem.specs.Repair.{NoneExplains}
+use Rattle.proof_documents.specs.Document.{Document as Claim}
+use Rattle.certificates.specs.Checks.{IsAcceptedDocument}
 use Rattle.command_words.specs.declared.words.Command.{Command}
-use Rattle.command_words.specs.declared.words.Command.TheVariants.{Validate, Explain, Apply}
+use Rattle.command_words.specs.declared.words.Command.TheVariants.{Validate, Explain, Apply, Check}
 use Rattle.command_words.specs.Words.{words_of}
 use Rattle.document_input.specs.NamedDocument.{NamedDocument}
 use Rattle.document_input.specs.Reading.{RoseFor}
@@ -16,6 +18,7 @@ use Rattle.explain_cli.specs.declared.status.Status.{Status}
 use Rattle.explain_cli.specs.declared.status.Status.TheVariants.{No, Usage, Input, Read, Write, Memory, TooMany, Spent}
 use Rattle.explain_cli.specs.Answer.{IsOneOf, statuses_of}
 use Rattle.explain_cli.specs.Input.{Contents, documents_of, IsValidationInput, Names, names, Graphs, IsInput, Refuses}
+use Rattle.explain_cli.specs.Input.{IsCheckInput, setting_of}
 use Rattle.explain_cli.specs.Outcome.{SinkTold, RoseIn}
 
 -- a status comes only where the fact holds, and always where it does, or one of those comes that it yields to
@@ -43,6 +46,12 @@ HasNoPair names held =
     (g : Graphs) × IsInput names held g × (candidate_count g.present g.offered ≤ 12)
     × NoneExplains (Conforms g.shapes) g.present (without g.offered g.present)
 
+-- the input is in order, and the claim is not accepted
+abbrev pub HasRejection : Names → List ℕ → Contents → Type 0
+HasRejection names claim_name held =
+    (g : Graphs) × (claim : Claim) × IsCheckInput names claim_name held g claim
+    × ¬ (IsAcceptedDocument (setting_of g) claim)
+
 -- the statuses of a command's own over documents whose bytes are told
 abbrev pub CommandCauses : Command → Contents → Status → Type 0
 CommandCauses (Validate shapes present) held status =
@@ -51,6 +60,8 @@ CommandCauses (Explain shapes present offered) held status =
     let n = names shapes present offered in
     ComesExactly TooMany cut_short (IsTooMuch n held) status × ComesExactly No cut_short (HasNoPair n held) status
 CommandCauses (Apply present document) held status = Unit {0}
+CommandCauses (Check shapes present offered document) held status =
+    ComesExactly No cut_short (HasRejection (names shapes present offered) document held) status
 
 -- the statuses of a command over documents whose bytes are told
 pub record InputCauses (command : Command) (held : Contents) (status : Status) : Type 0 where

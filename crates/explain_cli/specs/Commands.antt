@@ -1,11 +1,15 @@
 -- What the private functions of the commands say of their results.
 use Rattle.std.specs.Prelude.{◌≡◌, ◌≢◌, ◌↔◌, List, [], ◌∷◌, Result, Ok, Err, MatchResult}
 use Rattle.std.specs.List.Sorted.{IsStrictlySortedBy}
-use Rattle.rdf_terms.specs.Graph.{Graph}
+use Rattle.rdf_terms.specs.Graph.{Graph, empty}
 use Rattle.rdf_terms.specs.declared.term.Scope.TheVariants.{Data as OfData}
 use Rattle.ntriples_io.specs.CanonicalText.{graph_text}
 use Rattle.ntriples_io.specs.RoundTrip.{HasScope}
 use Rattle.ntriples_io.specs.Text.{NtText, AreLawful}
+use Rattle.proof_lines.specs.declared.proof.Claim.{Claim as Claimed}
+use Rattle.proof_documents.specs.Document.{Document as Claim}
+use Rattle.certificates.specs.declared.refusal.CheckRefusal.{CheckRefusal}
+use Rattle.certificates.specs.declared.refusal.CheckRefusal.TheVariants.{OutOfMemory as NoVerdict}
 use Rattle.proof_documents.specs.declared.refusal.ApplyRefusal.{ApplyRefusal}
 use Rattle.proof_documents.specs.declared.refusal.ApplyRefusal.TheVariants.{NoPair as ClaimsNoPair, OutsideData}
 use Rattle.proof_documents.specs.declared.refusal.ApplyRefusal.TheVariants.{OutOfMemory as NoMemory}
@@ -30,9 +34,10 @@ use Rattle.explain_cli.specs.declared.status.Status.{Status}
 use Rattle.explain_cli.specs.declared.status.Status.TheVariants.{Done, No, Input, Read, TooMany}
 use Rattle.explain_cli.specs.Answer.{IsAnswerIn}
 use Rattle.explain_cli.specs.ClaimText.{claim_of_pair, claim_of_none}
-use Rattle.explain_cli.specs.Input.{documents_of, RefusesIn, AreComparable, IsOutside, IsUnfitInput}
-use Rattle.explain_cli.specs.Notes.{input_line, read_line, too_many_line}
+use Rattle.explain_cli.specs.Input.{documents_of, RefusesIn, AreComparable, IsOutside, IsUnfitInput, Graphs, setting_of}
+use Rattle.explain_cli.specs.Notes.{input_line, read_line, too_many_line, rejected_line}
 use Rattle.explain_cli.specs.Reports.{answer, note}
+use Rattle.explain_cli.specs.Verdicts.{accepted_line, Judges}
 
 -- why a command has no answer
 abbrev pub IsErrorOf : Command → Change ShelfTold → InputError → Type 0
@@ -67,21 +72,36 @@ ReportsRows rows report = report ≡ answer (status_of_rows rows) (report_text r
 -- the report of the results of a data graph
 pub record IsValidationReport (s g : Graph) (report : Report) : Type 0 where
   pub profile : IsInProfile s
-  pub comparable : AreComparable s g
+  pub comparable : AreComparable s g empty
   pub rows : List ResultRow
   pub exact : AreRowsOf (IsResult s g) rows
   pub sorted : IsStrictlySortedBy row_cmp rows
   pub some : (rows ≢ []) ↔ ¬ (Conforms s g)
   pub texts : ReportsRows rows report
 
--- why a data graph was not validated
-abbrev pub IsValidationError : Graph → Graph → InputError → Type 0
-IsValidationError s g (Unread role) = ⊥
-IsValidationError s g (Refused refusal) = IsUnfitInput s g refusal
-IsValidationError s g OutOfMemory = Unit {0}
+-- why the graphs were not judged
+abbrev pub IsUnfitError : Graph → Graph → Graph → InputError → Type 0
+IsUnfitError s g offered (Unread role) = ⊥
+IsUnfitError s g offered (Refused refusal) = IsUnfitInput s g offered refusal
+IsUnfitError s g offered OutOfMemory = Unit {0}
 
 abbrev pub ReportsValidation : Graph → Graph → Result Report InputError → Type 0
-ReportsValidation s g result = MatchResult result (IsValidationReport s g) (IsValidationError s g)
+ReportsValidation s g result = MatchResult result (IsValidationReport s g) (IsUnfitError s g empty)
+
+-- the report of a verdict on a document that claims so
+abbrev pub IsVerdictReport : Claimed → Result (Unit {0}) CheckRefusal → Report → Type 0
+IsVerdictReport claim (Ok u) report = report ≡ answer Done (accepted_line claim)
+IsVerdictReport claim (Err e) report = (e ≢ NoVerdict) × (report ≡ note No (rejected_line e))
+
+-- the report of whether a claim is accepted
+pub record IsCheckReport (g : Graphs) (claim : Claim) (report : Report) : Type 0 where
+  pub profile : IsInProfile g.shapes
+  pub comparable : AreComparable g.shapes g.present g.offered
+  pub verdict : Judges (setting_of g) claim report
+
+abbrev pub ReportsVerdict : Graphs → Claim → Result Report InputError → Type 0
+ReportsVerdict g claim result =
+    MatchResult result (IsCheckReport g claim) (IsUnfitError g.shapes g.present g.offered)
 
 -- the report of what was found of the input of `explain`
 abbrev pub ReportsExplanation : Explanation → Result Report InputError → Type 0

@@ -1,6 +1,6 @@
 -- The input of a command: which documents its words name, what they are together, and what is refused.
 use Rattle.std.specs.Prelude.{◌≡◌, ◌≢◌, ℕ, ◌⊎◌, IsTrue, List, [], ◌∷◌, Option, None, Some}
-use Rattle.rdf_terms.specs.Graph.{Graph, empty}
+use Rattle.rdf_terms.specs.Graph.{Graph, empty, without}
 use Rattle.rdf_terms.specs.declared.term.Scope.TheVariants.{Data as OfData, Shapes as OfShapes}
 use Rattle.proof_lines.specs.declared.proof.Claim.TheVariants.{Pair as ClaimsPair}
 use Rattle.proof_documents.specs.Document.{Document as Claim}
@@ -11,9 +11,10 @@ use Rattle.shapes_profile.specs.declared.refusals.ShapeRefusal.{ShapeRefusal}
 use Rattle.shapes_profile.specs.declared.refusals.ShapeRefusal.TheVariants as faults
 use Rattle.shapes_profile.specs.Profile.{IsInProfile, IsFault}
 use Rattle.shapes_graph.specs.OrderLiterals.{IsCompared, is_out_of_reach, IsOrderLiteral}
+use Rattle.repair_problem.specs.Setting.{Setting, setting}
 use Rattle.thin_repair.specs.ThinShapes.{IsThinShapes}
 use Rattle.command_words.specs.declared.words.Command.{Command}
-use Rattle.command_words.specs.declared.words.Command.TheVariants.{Validate, Explain, Apply}
+use Rattle.command_words.specs.declared.words.Command.TheVariants.{Validate, Explain, Apply, Check}
 use Rattle.document_input.specs.declared.role.Role.TheVariants.{Shapes, Data, Offered}
 use Rattle.document_input.specs.declared.refusal.ShapesRefusal.{ShapesRefusal}
 use Rattle.document_input.specs.declared.refusal.ShapesRefusal.TheVariants.{NotReadYet, Unsupported, IllFormed}
@@ -37,6 +38,9 @@ documents_of (Validate shapes present) = GraphDocument Shapes shapes ∷ GraphDo
 documents_of (Explain shapes present offered) =
     GraphDocument Shapes shapes ∷ GraphDocument Data present ∷ GraphDocument Offered offered ∷ []
 documents_of (Apply present document) = GraphDocument Data present ∷ ClaimDocument document ∷ []
+documents_of (Check shapes present offered document) =
+    GraphDocument Shapes shapes ∷ GraphDocument Data present ∷ GraphDocument Offered offered
+    ∷ ClaimDocument document ∷ []
 
 -- ---- validate
 
@@ -46,14 +50,14 @@ pub record AreGraphsOf (shapes_name data_name : List ℕ) (held : Contents) (s g
   pub present : Holds (IsGraph OfData data_name g) (held data_name)
 
 -- no literal that a range constraint would have to compare is out of reach
-abbrev pub AreComparable : Graph → Graph → Type 0
-AreComparable s g = (y : Term) → IsCompared s g empty y → ¬ (IsTrue (is_out_of_reach y))
+abbrev pub AreComparable : Graph → Graph → Graph → Type 0
+AreComparable s g offered = (y : Term) → IsCompared s g offered y → ¬ (IsTrue (is_out_of_reach y))
 
 -- the graphs are those of the documents, the shapes are in the profile, and the literals can be compared
 pub record IsValidationInput (shapes_name data_name : List ℕ) (held : Contents) (s g : Graph) : Type 0 where
   pub documents : AreGraphsOf shapes_name data_name held s g
   pub profile : IsInProfile s
-  pub comparable : AreComparable s g
+  pub comparable : AreComparable s g empty
 
 -- the refusal names this cause why a graph is not in the profile
 abbrev pub NamesFault : ShapeRefusal → ShapesRefusal → Type 0
@@ -68,18 +72,18 @@ NamesFault faults.OutOfMemory reason = ⊥
 abbrev pub IsOutside : Graph → ShapesRefusal → Type 0
 IsOutside s reason = (f : ShapeRefusal) × IsFault s f × NamesFault f reason
 
--- the graphs can't be validated: first where the shapes are not in the profile, and then for a literal
-abbrev pub IsUnfitInput : Graph → Graph → InputRefusal → Type 0
-IsUnfitInput s g (OfTheShapes reason) = IsOutside s reason
-IsUnfitInput s g (OfALiteral y) = IsInProfile s × IsOrderLiteral s g empty y
-IsUnfitInput s g _ = ⊥
+-- the graphs can't be judged: first where the shapes are not in the profile, and then for a literal
+abbrev pub IsUnfitInput : Graph → Graph → Graph → InputRefusal → Type 0
+IsUnfitInput s g offered (OfTheShapes reason) = IsOutside s reason
+IsUnfitInput s g offered (OfALiteral y) = IsInProfile s × IsOrderLiteral s g offered y
+IsUnfitInput s g offered _ = ⊥
 
 -- both documents are in order, and their graphs can't be validated
 pub record RefusesValidation (shapes_name data_name : List ℕ) (held : Contents) (refusal : InputRefusal) : Type 0 where
   pub shapes : Graph
   pub present : Graph
   pub documents : AreGraphsOf shapes_name data_name held shapes present
-  pub unfit : IsUnfitInput shapes present refusal
+  pub unfit : IsUnfitInput shapes present empty refusal
 
 -- ---- explain
 
@@ -96,6 +100,9 @@ pub record Graphs : Type 0 where
   pub shapes : Graph
   pub present : Graph
   pub offered : Graph
+
+abbrev pub graphs_of : Graph → Graph → Graph → Graphs
+graphs_of shapes present offered = record { shapes = shapes; present = present; offered = offered }
 
 -- The graphs are those of the documents. The data and the offered triples share their blank nodes, and the
 -- shapes have their own.
@@ -137,6 +144,31 @@ pub record RefusesClaim (data_name claim_name : List ℕ) (held : Contents) (ref
   pub is : refusal ≡ OfTheClaim reason
   pub unfit : IsUnfitFor present claim reason
 
+-- ---- check
+
+-- the graphs and the claim are those of the documents
+pub record AreJudged (names : Names) (claim_name : List ℕ) (held : Contents) (g : Graphs) (claim : Claim) : Type 0 where
+  pub graphs : AreHeld names held g
+  pub claimed : Holds (IsClaim claim) (held claim_name)
+
+-- the graphs and the claim are those of the documents, the shapes are in the profile, and the literals can be compared
+pub record IsCheckInput (names : Names) (claim_name : List ℕ) (held : Contents) (g : Graphs) (claim : Claim)
+    : Type 0 where
+  pub documents : AreJudged names claim_name held g claim
+  pub profile : IsInProfile g.shapes
+  pub comparable : AreComparable g.shapes g.present g.offered
+
+-- all documents are in order, and their graphs can't be judged
+pub record RefusesCheck (names : Names) (claim_name : List ℕ) (held : Contents) (refusal : InputRefusal) : Type 0 where
+  pub graphs : Graphs
+  pub claim : Claim
+  pub documents : AreJudged names claim_name held graphs claim
+  pub unfit : IsUnfitInput graphs.shapes graphs.present graphs.offered refusal
+
+-- what the claim speaks of: the offered triples that the data has are no offers
+abbrev pub setting_of : Graphs → Setting
+setting_of g = setting g.shapes g.present (without g.offered g.present)
+
 -- ---- the first refusal
 
 -- a document is refused, and those before it are in order, where the shelf tells
@@ -149,6 +181,8 @@ abbrev pub RefusesBehind : Command → Contents → InputRefusal → Type 0
 RefusesBehind (Validate shapes present) held refusal = RefusesValidation shapes present held refusal
 RefusesBehind (Explain shapes present offered) held refusal = RefusesShapes (names shapes present offered) held refusal
 RefusesBehind (Apply present document) held refusal = RefusesClaim present document held refusal
+RefusesBehind (Check shapes present offered document) held refusal =
+    RefusesCheck (names shapes present offered) document held refusal
 
 -- the first refusal of the input: each document in the order of the words, and then what is behind them
 abbrev pub RefusesFirst : Command → Contents → InputRefusal → Type 0

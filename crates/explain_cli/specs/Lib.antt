@@ -7,3 +7,4 @@ pub mod Input
 pub mod Notes
 pub mod Outcome
 pub mod Reports
+pub mod Verdicts

@@ -3,6 +3,8 @@ use Rattle.std.specs.Prelude.{ℕ, List, [], ◌∷◌, ◌++◌, codes, decimal
 use Rattle.document_input.specs.declared.role.Role.{Role}
 use Rattle.document_input.specs.declared.refusal.InputRefusal.{InputRefusal}
 use Rattle.document_input.specs.Notes.{role_text, refusal_text}
+use Rattle.certificates.specs.declared.refusal.CheckRefusal.{CheckRefusal}
+use Rattle.certificates.specs.Reasons.{reason_text}
 
 -- a text as a line
 abbrev pub line : List ℕ → List ℕ
@@ -16,6 +18,9 @@ input_line refusal = line (codes "input: " ++ refusal_text refusal)
 
 abbrev pub read_line : Role → List ℕ
 read_line role = line (codes "read: " ++ role_text role)
+
+abbrev pub rejected_line : CheckRefusal → List ℕ
+rejected_line reason = line (codes "rejected: " ++ reason_text reason)
 
 abbrev pub too_many_line : ℕ → List ℕ
 too_many_line candidates = line (codes "too many: " ++ decimal candidates)

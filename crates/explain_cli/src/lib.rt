@@ -3,9 +3,11 @@
 #![tactic(auto)]
 
 mod apply;
+mod check;
 mod claim;
 mod explain;
 mod report;
+mod shapes;
 mod status;
 mod top;
 mod validate;

@@ -1,7 +1,8 @@
 ghost use Rattle.std.specs.Prelude.{◌≡◌, IfOk};
-ghost use Rattle.explain_cli.specs.Notes.{usage_line, too_many_line};
+ghost use Rattle.explain_cli.specs.Notes.{usage_line, too_many_line, rejected_line};
 
 use crate::Status;
+use certificates::CheckRefusal;
 use document_input::{InputError, bytes_of};
 use rdf_terms::{Bytes, OutOfMemory};
 use std::alloc::Global;
@@ -57,6 +58,14 @@ impl Report {
     {
         let line = format!(in alloc; "too many: {candidates}\n")?;
         Report::note(alloc, Status::TooMany, line.as_str())
+    }
+
+    /// The document is not accepted, for that reason.
+    pub fn rejected(alloc: Global, reason: CheckRefusal) -> Result<Report, OutOfMemory>
+        ensures { IfOk result (λ r. r ≡ note Status.No (rejected_line reason)) }
+    {
+        let line = format!(in alloc; "rejected: {reason}\n")?;
+        Report::note(alloc, Status::No, line.as_str())
     }
 
     /// The input could not be read, or is refused.

@@ -4,9 +4,9 @@ ghost use Rattle.explain_cli.specs.ExitCode.{code_of};
 /// How a call ended.
 #[derive(Clone, Copy, Debug, PartialEq, Eq)]
 pub enum Status {
-    /// The data conforms, or the answer is a pair, or the data with a pair applied.
+    /// The data conforms, or the answer is a pair, or the data with a pair applied, or a document is accepted.
     Done,
-    /// The data doesn't conform, or the answer is that no pair explains.
+    /// The data doesn't conform, or the answer is that no pair explains, or a document is not accepted.
     No,
     /// The words are no command.
     Usage,

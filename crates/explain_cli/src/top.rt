@@ -6,6 +6,7 @@ ghost use Rattle.explain_cli.specs.Commands.{AnswersCommand, IsErrorReport};
 ghost use Rattle.explain_cli.specs.Outcome.{sink_told, Writes, Outcome};
 
 use crate::apply::apply_report;
+use crate::check::check_report;
 use crate::explain::explain_report;
 use crate::report::Report;
 use crate::validate::validate_report;
@@ -33,6 +34,18 @@ fn answer_command<H: Shelf>(command: &Command, reader: &mut Reader<H>) -> Result
         Command::Apply { present, document } => {
             apply_report(reader, present.as_str(), document.as_str())
         }
+        Command::Check {
+            shapes,
+            present,
+            offered,
+            document,
+        } => check_report(
+            reader,
+            shapes.as_str(),
+            present.as_str(),
+            offered.as_str(),
+            document.as_str(),
+        ),
     }
 }
 

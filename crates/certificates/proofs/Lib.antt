@@ -1,0 +1,14 @@
+pub mod Advanced
+pub mod Answered
+pub mod Bound
+pub mod Claimed
+pub mod Clauses
+pub mod Ended
+pub mod Kept
+pub mod Law
+pub mod ReadBack
+pub mod Shown
+pub mod Sound
+pub mod Standing
+pub mod Verdict
+pub mod Written

@@ -1,0 +1,47 @@
+ghost use Rattle.std.specs.Prelude.{◌≡◌, ◌<◌, IfOk, IsTrue, OnOk, length};
+ghost use Rattle.clause_store.specs.Clauses.{is_within};
+ghost use Rattle.certificates.specs.Numbers.{clause_of, literal_of, AreApart, IsGrown};
+
+use clause_store::{Lit, Lits};
+use indexmap::IndexSet;
+use rdf_terms::OutOfMemory;
+use repair_problem::{Atom, Literal};
+use std::alloc::Global;
+
+/// Atoms by their numbers, which are their places.
+pub(crate) type Atoms = IndexSet<Atom>;
+
+/// The literal in numbers. A new atom takes the next number.
+fn number_literal(atoms: &mut Atoms, literal: Literal) -> Result<Lit, OutOfMemory>
+    requires { AreApart atoms.old.keys }
+    ensures value { IfOk result (λ l. literal_of atoms.new.keys l ≡ literal) }
+    ensures within { IfOk result (λ l. l.var < length atoms.new.keys) }
+    ensures grown { OnOk result (IsGrown atoms.old.keys atoms.new.keys) }
+    ensures apart { OnOk result (AreApart atoms.new.keys) }
+{
+    let found = atoms.insert_full(literal.atom)?;
+    Ok(Lit {
+        var: found.0,
+        positive: literal.positive,
+    })
+}
+
+/// The clause in numbers. Each new atom, in the order of the literals, takes the next number.
+pub(crate) fn number_clause(
+    alloc: Global,
+    atoms: &mut Atoms,
+    literals: &[Literal],
+) -> Result<Lits, OutOfMemory>
+    requires { AreApart atoms.old.keys }
+    ensures value { IfOk result (λ c. clause_of atoms.new.keys c ≡ literals.now) }
+    ensures within { IfOk result (λ c. IsTrue (is_within (length atoms.new.keys) c)) }
+    ensures grown { OnOk result (IsGrown atoms.old.keys atoms.new.keys) }
+    ensures apart { OnOk result (AreApart atoms.new.keys) }
+{
+    let mut clause = Lits::new(alloc);
+    'literals: for literal in literals {
+        let lit = number_literal(atoms, *literal)?;
+        clause.push(lit)?;
+    }
+    Ok(clause)
+}

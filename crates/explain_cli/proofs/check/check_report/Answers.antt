@@ -1,0 +1,38 @@
+use Rattle.std.proofs.lemmas.Result.{err_from_is_err_and}
+use Rattle.command_words.specs.declared.words.Command.TheVariants.{Check}
+use Rattle.document_input.specs.Told.{during, shelf_told}
+use Rattle.document_input.proofs.Errors.{here, past_graph}
+use Rattle.explain_cli.proofs.Answers.{stops, checks}
+use Rattle.explain_cli.proofs.check.check_report.Goals as goal
+
+pub returns-in_err-present-clause-answer : goal.returns-in_err-present-clause-answer
+returns-in_err-present-clause-answer g c =
+    let error = err_from_is_err_and c.from_residual-in_err-present.result c.from_residual-in_err-present.ensures.1 in
+    rw (error.1, error.2) (stops (Check c.args.shapes.now c.args.present.now c.args.offered.now c.args.document.now)
+    (past_graph c.in_ok-shapes.ensures.read (here c.in_err-present.ensures.read)))
+
+pub returns-in_err-offered-clause-answer : goal.returns-in_err-offered-clause-answer
+returns-in_err-offered-clause-answer g c =
+    let error = err_from_is_err_and c.from_residual-in_err-offered.result c.from_residual-in_err-offered.ensures.1 in
+    rw (error.1, error.2) (stops (Check c.args.shapes.now c.args.present.now c.args.offered.now c.args.document.now)
+    (past_graph c.in_ok-shapes.ensures.read (past_graph c.in_ok-present.ensures.read (here c.in_err-offered.ensures.read))))
+
+pub returns-in_err-text-clause-answer : goal.returns-in_err-text-clause-answer
+returns-in_err-text-clause-answer g c =
+    let error = err_from_is_err_and c.from_residual-in_err-text.result c.from_residual-in_err-text.ensures.1 in
+    rw (error.1, error.2) (stops (Check c.args.shapes.now c.args.present.now c.args.offered.now c.args.document.now)
+    (past_graph c.in_ok-shapes.ensures.read (past_graph c.in_ok-present.ensures.read (past_graph c.in_ok-offered.ensures.read (here c.in_err-text.ensures.read)))))
+
+pub returns-clause-answer : goal.returns-clause-answer
+returns-clause-answer g c =
+    let told = shelf_told g.H.Shelf.held g.H.Shelf.faults in
+    let first = c.graph.ensures.read.later.kept in
+    let second = c.graph-2.ensures.read.later.kept in
+    let third = c.graph-3.ensures.read.later.kept in
+    checks c.args.shapes.now c.args.present.now c.args.offered.now c.args.document.now (during told c.args.reader.now.shelf.now c.document.new.self.shelf.now)
+    (record { shapes = c.in_ok-shapes.shapes; present = c.in_ok-present.present; offered = c.in_ok-offered.offered }) c.in_ok-text.text c.report_verdict.result
+    (record {
+      graphs = record { shapes = c.in_ok-shapes.ensures.read.ok; present = rw first at c.in_ok-present.ensures.read.ok; offered = rw (second, first) at c.in_ok-offered.ensures.read.ok };
+      claimed = rw (third, second, first) at c.in_ok-text.ensures.read.ok;
+    })
+    c.report_verdict.ensures
