@@ -58,7 +58,7 @@ recomposed scheme c =
     scheme ++ codes ":" ++ marked (codes "//") c.authority ++ c.path ++ marked (codes "?") c.query
     ++ marked (codes "#") c.fragment
 
--- the base is a scheme, ':' and a rest
+-- The base is a scheme, ':' and a rest. `has_scheme` is true exactly where a text begins with a scheme.
 unfoldable pub resolved : List ℕ → List ℕ → List ℕ
 resolved base reference =
     if has_scheme reference then reference

@@ -8,7 +8,8 @@ ghost use Rattle.iri_references.specs.DotSegments.{turn, without_dot_segments};
 use crate::cuts::{last_slash, slash_from, strip};
 use std::alloc::{AllocError, Global};
 
-/// The path from the `/` behind the prefix on, where a segment ends with the prefix: that `/` stands for the end, too.
+/// Where the first segment ends with the prefix: the path behind the prefix, from its `/` on, or `/` where nothing is
+/// left.
 fn strip_segment<'a>(path: &'a str, prefix: &str) -> Option<&'a str>
     requires { 1 < length prefix.now }
     ensures found { is_some result ≡ begins_with_segment prefix.now path.now }
@@ -70,7 +71,7 @@ fn take_turn<'a>(input: &'a str, output: &mut String) -> Result<&'a str, AllocEr
     Ok(rest)
 }
 
-/// The path without its dot segments. Each character goes to the output once, and leaves it once at most.
+/// The path without its dot segments, in time linear in the path.
 pub fn remove_dot_segments(alloc: Global, path: &str) -> Result<String, AllocError>
     ensures { IfOk result (λ output. string_bytes output ≡ without_dot_segments path.now) }
 {

@@ -1,0 +1,7 @@
+pub mod CutLaws
+pub mod FillingLaws
+pub mod Fronts
+pub mod LocalNameLaws
+pub mod Samples
+pub mod TokenTable
+pub mod Unique
