@@ -1,0 +1,14 @@
+pub mod AtomRules
+pub mod Changed
+pub mod ClauseAtoms
+pub mod Explained
+pub mod Finished
+pub mod FocusNodes
+pub mod Lower
+pub mod NumberLaws
+pub mod PartValues
+pub mod Right
+pub mod RootLaws
+pub mod RootLists
+pub mod Whole
+pub mod Working

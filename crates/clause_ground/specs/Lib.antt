@@ -1,0 +1,8 @@
+-- Which premises a problem needs, and what the assignments say that make them true.
+pub mod Grounds
+pub mod Growth
+pub mod Models
+pub mod Needed
+pub mod Numbers
+pub mod Premises
+pub mod RootClauses
