@@ -11,7 +11,7 @@ use Rattle.premise_rules.proofs.DistinctLiterals.{take_none}
 use Rattle.certificates.specs.declared.refusal.CheckRefusal.{CheckRefusal}
 use Rattle.certificates.specs.declared.refusal.LineRefusal.{LineRefusal}
 use Rattle.certificates.specs.Checks.{AreChangesThere, IsRejection, IsVerdict}
-use Rattle.certificates.specs.Numbers.{IsLineRefusal, refused_at, IsRefusedLine, IsClaimChecked}
+use Rattle.certificates.specs.Checker.{IsLineRefusal, refused_at, IsRefusedLine, IsClaimChecked}
 use Rattle.certificates.proofs.Standing.{leads_more}
 use Rattle.certificates.proofs.Verdict.{line_rejected, claim_verdict}
 

@@ -30,7 +30,8 @@ use Rattle.certificates.specs.declared.refusal.LineRefusal.{LineRefusal}
 use Rattle.certificates.specs.declared.refusal.LineRefusal.TheVariants as refusal
 use Rattle.certificates.specs.Checks.{IsBelowLast, FitsClaim}
 use Rattle.certificates.specs.Members.{AreAmong}
-use Rattle.certificates.specs.Numbers.{lines_of, IsReady, IsLineRefusal, IsChecked, IsEnded, IsClaimChecked, IsPairRefusal, pair_answer, kept_or_memory, rule_refused, step_refused, claim_answer}
+use Rattle.atom_numbers.specs.Numbers.{lines_of}
+use Rattle.certificates.specs.Checker.{IsReady, IsLineRefusal, IsChecked, IsEnded, IsClaimChecked, IsPairRefusal, pair_answer, kept_or_memory, rule_refused, step_refused, claim_answer}
 use Rattle.certificates.proofs.Kept.{step_bad, pair_ready}
 use Rattle.certificates.proofs.Ended.{last_at, no_last, one_last, below_none, claimed_is, claimed_not, last_candidates, refuted_is, ended_done, done_ended}
 

@@ -13,7 +13,8 @@ use Rattle.proof_lines.specs.declared.proof.Claim.{Claim}
 use Rattle.proof_lines.specs.declared.proof.Claim.TheVariants as claim
 use Rattle.premise_rules.specs.Documents.{IsLast, IsClaimed}
 use Rattle.certificates.specs.Checks.{IsBelowLast, IsDone}
-use Rattle.certificates.specs.Numbers.{clause_of, lines_of, IsEnded}
+use Rattle.atom_numbers.specs.Numbers.{clause_of, lines_of}
+use Rattle.certificates.specs.Checker.{IsEnded}
 use Rattle.certificates.proofs.Sound.{some_is, none_some}
 
 pub last_at : (chain : List (List ℕ)) (p : List ℕ) → slice_get chain (length chain - 1) ≡ Some p → IsLast chain p

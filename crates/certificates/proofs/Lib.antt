@@ -2,7 +2,6 @@ pub mod Advanced
 pub mod Answered
 pub mod Bound
 pub mod Claimed
-pub mod Clauses
 pub mod Ended
 pub mod Kept
 pub mod Law

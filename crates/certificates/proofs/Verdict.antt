@@ -13,7 +13,7 @@ use Rattle.certificates.specs.declared.refusal.CheckRefusal.TheVariants as check
 use Rattle.certificates.specs.declared.refusal.LineRefusal.{LineRefusal}
 use Rattle.certificates.specs.declared.refusal.LineRefusal.TheVariants as refusal
 use Rattle.certificates.specs.Checks.{AreChangesThere, IsOutside, IsNotBelow, IsNotConforming, IsBadRule, IsBadStep, FailsAt, IsRejection, IsNotAccepted, IsVerdict}
-use Rattle.certificates.specs.Numbers.{IsLineRefusal, refused_at, IsRefusedLine, IsClaimChecked}
+use Rattle.certificates.specs.Checker.{IsLineRefusal, refused_at, IsRefusedLine, IsClaimChecked}
 use Rattle.certificates.specs.Shown.{IsShown}
 use Rattle.certificates.proofs.Law.{accepted_shown}
 use Rattle.certificates.proofs.Standing.{rejected, accepted}

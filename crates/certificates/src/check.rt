@@ -2,8 +2,9 @@ ghost use Rattle.std.specs.Prelude.{◌≡◌, ◌↔◌, ◌<◌, ◌+◌, ◌^
 ghost use Rattle.rdf_terms.specs.Graph.{of_list};
 ghost use Rattle.premise_rules.specs.Documents.{no_lines, Leads, AnyStep, IsClaimed};
 ghost use Rattle.certificates.specs.Checks.{AreChangesThere, IsVerdict, IsNotAccepted, FitsClaim};
-ghost use Rattle.certificates.specs.Numbers.{lines_of, refused_at, IsReady, IsRefusedLine, IsEnded};
-ghost use Rattle.certificates.specs.Numbers.{IsClaimChecked, claim_answer};
+ghost use Rattle.atom_numbers.specs.Numbers.{lines_of};
+ghost use Rattle.certificates.specs.Checker.{refused_at, IsReady, IsRefusedLine, IsEnded};
+ghost use Rattle.certificates.specs.Checker.{IsClaimChecked, claim_answer};
 ghost use Rattle.repair_problem.specs.Changes.{AreCandidates};
 ghost use Rattle.certificates.specs.Shown.{IsShown};
 

@@ -7,13 +7,14 @@ ghost use Rattle.premise_rules.specs.declared.clause.Clause.TheVariants.{Literal
 ghost use Rattle.premise_rules.specs.Documents.{no_lines, with_clause};
 ghost use Rattle.premise_rules.specs.RuleClauses.{rule_clause};
 ghost use Rattle.certificates.specs.Checks.{IsBelowLast};
-ghost use Rattle.certificates.specs.Numbers.{lines_of, AreOnce, IsReady, IsLineRefusal, IsChecked, IsPairRefusal};
-ghost use Rattle.certificates.specs.Numbers.{rule_refused, step_refused, kept_or_memory};
-ghost use Rattle.certificates.specs.Numbers.{pair_answer};
+ghost use Rattle.atom_numbers.specs.Numbers.{lines_of, AreOnce};
+ghost use Rattle.certificates.specs.Checker.{IsReady, IsLineRefusal, IsChecked, IsPairRefusal};
+ghost use Rattle.certificates.specs.Checker.{rule_refused, step_refused, kept_or_memory};
+ghost use Rattle.certificates.specs.Checker.{pair_answer};
 
 use crate::members::are_among;
-use crate::numbering::{Atoms, number_clause};
 use crate::refusal::LineRefusal;
+use atom_numbers::{Atoms, number_clause};
 use clause_store::ClauseStore;
 use core_constraints::conforms;
 use premise_rules::{PremiseRules, RuleRefusal};

@@ -11,7 +11,6 @@ mod check;
 mod checker;
 mod laws;
 mod members;
-mod numbering;
 mod refusal;
 mod writing;
 

@@ -21,12 +21,12 @@ use Rattle.count_encode.specs.PartTruth.{signed}
 use Rattle.core_constraints.proofs.Decided.{no_false, false_of, true_or_false}
 use Rattle.atom_parts.specs.Fixing.{NoAtom, Free, fixing}
 use Rattle.atom_parts.proofs.Facts.{some_is, none_some}
-use Rattle.clause_ground.specs.Numbers.{AreApart}
+use Rattle.atom_numbers.specs.Numbers.{AreApart}
 use Rattle.clause_ground.specs.Models.{changed_at, changed_from, changed}
 
 -- Members of the change.
 -- an atom of the candidate stands there, with the other value
-abbrev Turned : Setting → (ℕ → Bool) → ℕ → List Atom → ℕ → Type 0
+abbrev pub Turned : Setting → (ℕ → Bool) → ℕ → List Atom → ℕ → Type 0
 Turned s v k ats t = (n : ℕ) × (slice_get ats n ≡ Some (atom.Triple t)) × (signed (in_data s t) (v (k + n)) ≡ false)
 
 module _ (s : Setting) (v : ℕ → Bool) where
@@ -52,7 +52,7 @@ module _ (s : Setting) (v : ℕ → Bool) where
   at_back k (atom.Conforms n x) t c = absurd (in_none t c)
   at_back k (atom.Target n x) t c = absurd (in_none t c)
 
-  turned_back : (k : ℕ) (ats : List Atom) (t : ℕ) → Contains (changed_from s v k ats) t → Turned s v k ats t
+  pub turned_back : (k : ℕ) (ats : List Atom) (t : ℕ) → Contains (changed_from s v k ats) t → Turned s v k ats t
   turned_back k [] t c = absurd (in_none t c)
   turned_back k (a ∷ ats) t c = split (Contains-append_cases (changed_at s v k a) (changed_from s v (suc k) ats) t c) (turned_back (suc k) ats t)
     where
@@ -66,7 +66,7 @@ module _ (s : Setting) (v : ℕ → Bool) where
           let z : suc k + r.0 ≡ k + suc r.0 = omega arith in
           (suc r.0, r.1, subst (λ n. signed (in_data s t) (v n) ≡ false) z r.2)
 
-  turned_there : (k : ℕ) (ats : List Atom) (t n : ℕ) → slice_get ats n ≡ Some (atom.Triple t) → signed (in_data s t) (v (k + n)) ≡ false → Contains (changed_from s v k ats) t
+  pub turned_there : (k : ℕ) (ats : List Atom) (t n : ℕ) → slice_get ats n ≡ Some (atom.Triple t) → signed (in_data s t) (v (k + n)) ≡ false → Contains (changed_from s v k ats) t
   turned_there k [] t n e f = absurd (none_some e)
   turned_there k (a ∷ ats) t zero e f =
       let z : k + 0 ≡ k = omega arith in

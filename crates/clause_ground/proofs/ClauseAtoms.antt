@@ -15,7 +15,7 @@ use Rattle.premise_rules.specs.declared.clause.Clause.TheVariants.{Literals}
 use Rattle.premise_rules.specs.Literals.{finished, distinct}
 use Rattle.premise_rules.specs.PlaceClauses.{part_clause, place_clause, clause_at}
 use Rattle.premise_rules.proofs.AnsweredLiterals.{finished_as, literals_only}
-use Rattle.clause_ground.specs.Numbers.{Stands}
+use Rattle.atom_numbers.specs.Numbers.{Stands}
 use Rattle.clause_ground.proofs.Lower.{counted_own}
 
 module _ (a : Atom) where

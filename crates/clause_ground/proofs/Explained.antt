@@ -37,7 +37,7 @@ use Rattle.atom_parts.proofs.Proper.{root_proper}
 use Rattle.premise_rules.specs.declared.clause.Clause.{Clause}
 use Rattle.premise_rules.specs.declared.clause.Clause.TheVariants.{Literals, Tautology, OutOfRange}
 use Rattle.clause_ground.specs.declared.premise.Premise.{Premise}
-use Rattle.clause_ground.specs.Numbers.{literal_of, clause_of, AreApart, Stands}
+use Rattle.atom_numbers.specs.Numbers.{literal_of, clause_of, AreApart, Stands}
 use Rattle.clause_ground.specs.Premises.{rules_of, clauses_of}
 use Rattle.clause_ground.specs.Needed.{root, rule_at, clause_in, CanBeFocus, IsRuleOf, StandsIn, NeededIn, IsNeeded, IsNeededAtom, Occurs, IsInNumbers, AreNeeded}
 use Rattle.clause_ground.specs.Growth.{IsKept}
@@ -47,7 +47,7 @@ use Rattle.clause_ground.proofs.AtomRules.{rule_clause_at}
 use Rattle.clause_ground.proofs.ClauseAtoms.{stands_among}
 use Rattle.clause_ground.proofs.Finished.{literals_are, rule_premise, given}
 use Rattle.clause_ground.proofs.FocusNodes.{focus_node}
-use Rattle.clause_ground.proofs.NumberLaws.{place_is}
+use Rattle.atom_numbers.proofs.NumberLaws.{place_is}
 use Rattle.clause_ground.proofs.Right.{right}
 use Rattle.clause_ground.proofs.RootLaws.{root_clause, possible_shape, focus_possible}
 use Rattle.clause_ground.proofs.Working.{get_in, in_place}

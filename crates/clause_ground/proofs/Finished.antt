@@ -15,7 +15,7 @@ use Rattle.atom_parts.specs.PartLiterals.{In}
 use Rattle.premise_rules.specs.declared.clause.Clause.{Clause}
 use Rattle.premise_rules.specs.declared.clause.Clause.TheVariants.{Literals, Tautology}
 use Rattle.clause_ground.specs.declared.premise.Premise.{Premise}
-use Rattle.clause_ground.specs.Numbers.{clause_of, Stands}
+use Rattle.atom_numbers.specs.Numbers.{clause_of, Stands}
 use Rattle.clause_ground.specs.Premises.{rules_of}
 use Rattle.clause_ground.specs.Needed.{clause_in, IsRuleOf, StandsIn, NeededIn, IsNeeded, Occurs, IsInNumbers, AreNeeded}
 use Rattle.clause_ground.specs.Growth.{found, IsSound, IsKept, IsClosedTo}

@@ -5,7 +5,6 @@ pub mod Explained
 pub mod Finished
 pub mod FocusNodes
 pub mod Lower
-pub mod NumberLaws
 pub mod PartValues
 pub mod Right
 pub mod RootLaws

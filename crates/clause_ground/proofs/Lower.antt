@@ -17,7 +17,7 @@ use Rattle.premise_rules.specs.Literals.{same_atom, is_tautology, distinct, fini
 use Rattle.premise_rules.specs.PlaceClauses.{place_clause, clause_at, places}
 use Rattle.premise_rules.proofs.AnsweredLiterals.{literals_kept}
 use Rattle.premise_rules.proofs.SameLiterals.{atom_is, atom_itself}
-use Rattle.clause_ground.specs.Numbers.{Stands}
+use Rattle.atom_numbers.specs.Numbers.{Stands}
 use Rattle.clause_ground.proofs.PartValues.{tautology_value}
 
 stands_in : (ls : List Literal) (l : Literal) → In ls l → Stands ls l.atom

@@ -21,7 +21,7 @@ use Rattle.premise_rules.specs.declared.clause.Clause.TheVariants.{Literals}
 use Rattle.premise_rules.specs.Premises.{IsTrueOf}
 use Rattle.premise_rules.proofs.PremiseLaws.{premise}
 use Rattle.clause_ground.specs.declared.premise.Premise.{Premise}
-use Rattle.clause_ground.specs.Numbers.{clause_of, AreApart}
+use Rattle.atom_numbers.specs.Numbers.{clause_of, AreApart}
 use Rattle.clause_ground.specs.Premises.{rules_of, clauses_of}
 use Rattle.clause_ground.specs.Needed.{root, rule_at, clause_in, NeededIn, IsNeeded, AreNeeded}
 use Rattle.clause_ground.specs.Models.{AreTrue, changed, AreOfExplanations}

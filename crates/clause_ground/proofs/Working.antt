@@ -21,11 +21,11 @@ use Rattle.premise_rules.specs.declared.clause.Clause.TheVariants.{Literals, Tau
 use Rattle.premise_rules.specs.Literals.{finished, is_tautology, distinct}
 use Rattle.premise_rules.specs.PlaceClauses.{part_clause, last_clause, clause_at, places, clauses_of}
 use Rattle.clause_ground.specs.declared.premise.Premise.{Premise}
-use Rattle.clause_ground.specs.Numbers.{clause_of, IsGrown, Stands, ComeFrom, joined, joined_all}
+use Rattle.atom_numbers.specs.Numbers.{clause_of, IsGrown, Stands, ComeFrom, joined, joined_all}
 use Rattle.clause_ground.specs.Premises.{rules_of, literals_of}
 use Rattle.clause_ground.specs.Needed.{rule_at, clause_in, IsRuleOf, IsRoot, StandsIn, NeededIn, IsNeeded, Occurs, IsInNumbers, AreNeeded}
 use Rattle.clause_ground.specs.Growth.{Found, found, Adds, AddsClause, IsSound, IsKept, Grows, IsMade, IsClosedTo}
-use Rattle.clause_ground.proofs.NumberLaws.{joined_all_end, grown_more, grown_length, kept_clause, within_more}
+use Rattle.atom_numbers.proofs.NumberLaws.{joined_all_end, grown_more, grown_length, kept_clause, within_more}
 use Rattle.clause_ground.proofs.AtomRules.{rule_clause_at, place_rule}
 
 in_kept : {X : Type 0} (xs : List X) (x y : X) → In xs y → In (xs ++ x ∷ []) y

@@ -10,7 +10,7 @@ use Rattle.atom_parts.specs.PartLiterals.{In}
 use Rattle.premise_rules.specs.declared.clause.Clause.{Clause}
 use Rattle.premise_rules.specs.declared.clause.Clause.TheVariants.{Literals, Tautology, OutOfRange}
 use Rattle.clause_ground.specs.declared.premise.Premise.{Premise}
-use Rattle.clause_ground.specs.Numbers.{clause_of, IsGrown, ComeFrom, joined, joined_all}
+use Rattle.atom_numbers.specs.Numbers.{clause_of, IsGrown, ComeFrom, joined, joined_all}
 use Rattle.clause_ground.specs.Premises.{rules_of, literals_of}
 use Rattle.clause_ground.specs.Needed.{clause_in, IsInNumbers, IsNeeded, IsRuleOf, Occurs}
 

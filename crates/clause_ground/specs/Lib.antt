@@ -3,6 +3,5 @@ pub mod Grounds
 pub mod Growth
 pub mod Models
 pub mod Needed
-pub mod Numbers
 pub mod Premises
 pub mod RootClauses

@@ -14,7 +14,7 @@ use Rattle.repair_problem.specs.PartMeaning.{HoldsIf}
 use Rattle.count_encode.specs.PartTruth.{signed}
 use Rattle.atom_parts.specs.PartLiterals.{In}
 use Rattle.premise_rules.specs.Premises.{IsTrueOf}
-use Rattle.clause_ground.specs.Numbers.{clause_of}
+use Rattle.atom_numbers.specs.Numbers.{clause_of}
 
 -- the value of a literal, where variables have these values
 abbrev pub lit_value : (ℕ → Bool) → Lit → Bool

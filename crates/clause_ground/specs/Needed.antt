@@ -19,7 +19,7 @@ use Rattle.premise_rules.specs.declared.clause.Clause.TheVariants.{Literals, Tau
 use Rattle.premise_rules.specs.PlaceClauses.{places}
 use Rattle.premise_rules.specs.RuleClauses.{rule_clause}
 use Rattle.clause_ground.specs.declared.premise.Premise.{Premise}
-use Rattle.clause_ground.specs.Numbers.{Stands, clause_of, joined_all}
+use Rattle.atom_numbers.specs.Numbers.{Stands, clause_of, joined_all}
 use Rattle.clause_ground.specs.Premises.{rules_of, literals_of}
 
 -- the rule of the clause of an atom at a place; candidates have none

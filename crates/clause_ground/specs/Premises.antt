@@ -5,7 +5,7 @@ use Rattle.repair_problem.specs.declared.atom.Atom.{Atom}
 use Rattle.repair_problem.specs.declared.atom.Literal.{Literal}
 use Rattle.proof_lines.specs.declared.rule.Rule.{Rule}
 use Rattle.clause_ground.specs.declared.premise.Premise.{Premise}
-use Rattle.clause_ground.specs.Numbers.{clause_of}
+use Rattle.atom_numbers.specs.Numbers.{clause_of}
 
 abbrev pub rules_of : List Premise → List Rule
 rules_of ps = map (λ p. p.rule) ps

@@ -1,10 +1,10 @@
 ghost use Rattle.std.specs.Prelude.{◌≡◌, ◌<◌, ◌↔◌, [], ℕ, IfOk, IsTrue, OnOk, OnErr, length, Some, slice_get};
 ghost use Rattle.clause_store.specs.Clauses.{is_within};
-ghost use Rattle.clause_ground.specs.Numbers.{clause_of, joined, AreApart, IsGrown};
+ghost use Rattle.atom_numbers.specs.Numbers.{clause_of, joined, AreApart, IsGrown};
 ghost use Rattle.clause_ground.specs.Premises.{rules_of, clauses_of};
 
 use crate::Premise;
-use crate::numbering::{Atoms, number_clause};
+use atom_numbers::{Atoms, number_clause};
 use clause_store::{Lit, Lits};
 use premise_rules::Rule;
 use rdf_terms::{Items, OutOfMemory};

@@ -7,7 +7,6 @@
 mod atom_rules;
 mod ground;
 mod needed;
-mod numbering;
 mod premise;
 mod roots;
 

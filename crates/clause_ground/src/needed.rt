@@ -3,7 +3,7 @@ ghost use Rattle.repair_problem.specs.declared.atom.Atom.{Atom as Fact};
 ghost use Rattle.atom_parts.specs.PartLiterals.{In};
 ghost use Rattle.clause_ground.specs.Needed.{rule_at, AreNeeded, IsNeededAtom};
 ghost use Rattle.clause_ground.specs.Grounds.{premises, atoms};
-ghost use Rattle.clause_ground.specs.Numbers.{AreApart};
+ghost use Rattle.atom_numbers.specs.Numbers.{AreApart};
 ghost use Rattle.clause_ground.specs.Growth.{AddsClause, Grows, IsSound, IsClosedTo, IsMade, found};
 ghost use Rattle.clause_ground.specs.Premises.{rules_of, clauses_of};
 ghost use Rattle.clause_ground.specs.Models.{AreOfExplanations};

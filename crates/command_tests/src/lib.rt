@@ -2,6 +2,10 @@
 #![tactic(auto)]
 
 #[cfg(test)]
+mod bent;
+#[cfg(test)]
+mod calls;
+#[cfg(test)]
 mod documents;
 #[cfg(test)]
 mod tests;

@@ -1,40 +1,14 @@
 //! Documents that are too long to be written down, and the public call that no command makes. All other words
 //! and bytes are worked cases.
 
+use crate::calls::expect_note;
 use core_constraints::conforms;
-use explain_cli::{Status, run};
+use explain_cli::Status;
 use ntriples_io::read_ntriples;
-use rdf_terms::{Bytes, OutOfMemory, Scope};
+use rdf_terms::{Bytes, Scope};
 use shapes_graph::read_shapes;
-use shelf_io::{MemoryShelf, MemorySink};
-use std::alloc::Global;
-use std::process::Abort;
+use shelf_io::MemoryShelf;
 use std::test::Fail;
-
-/// The call ends with the status, and writes this note and nothing else.
-fn expect_note(
-    rt: &impl Abort,
-    alloc: Global,
-    words: &[&str],
-    shelf: &mut MemoryShelf,
-    status: Status,
-    note: &str,
-) -> Result<(), OutOfMemory> {
-    let mut owned = Vec::new(alloc);
-    for word in words {
-        owned.push(String::from_str(alloc, word)?)?;
-    }
-    let mut out = MemorySink::new(alloc, 1000)?;
-    let mut notes = MemorySink::new(alloc, 1000)?;
-    assert_eq!(rt;
-        run(alloc, owned.as_slice(), shelf, &mut out, &mut notes),
-        status,
-        "{note}"
-    );
-    assert_eq!(rt; out.bytes(), b"".as_slice(), "{note}");
-    assert_eq!(rt; notes.bytes(), note.as_bytes());
-    Ok(())
-}
 
 /// One byte more than a document may have.
 const TOO_MANY: u64 = (1 << 30) + 1;

@@ -8,7 +8,6 @@ use Rattle.document_input.specs.declared.refusal.DocumentRefusal.{DocumentRefusa
 use Rattle.document_input.specs.declared.refusal.DocumentRefusal.TheVariants.{TooLong as TooLongClaim}
 use Rattle.document_input.specs.declared.refusal.DocumentRefusal.TheVariants.{Line as ClaimLine}
 use Rattle.document_input.specs.declared.refusal.ShapesRefusal.{ShapesRefusal}
-use Rattle.document_input.specs.declared.refusal.ShapesRefusal.TheVariants.{NotReadYet as ShapesNotReadYet}
 use Rattle.document_input.specs.declared.refusal.ShapesRefusal.TheVariants.{Unsupported, IllFormed, Recursive}
 use Rattle.document_input.specs.declared.refusal.ShapesRefusal.TheVariants.{PathTooDeep, ShapeTooDeep}
 use Rattle.document_input.specs.declared.refusal.ClaimRefusal.{ClaimRefusal}
@@ -35,7 +34,6 @@ document_text TooLongClaim = codes "too long"
 document_text (ClaimLine number) = codes "line " ++ decimal number
 
 abbrev pub shapes_text : ShapesRefusal → List ℕ
-shapes_text ShapesNotReadYet = codes "not read yet"
 shapes_text (Unsupported predicate) = codes "unsupported " ++ term_text predicate
 shapes_text (IllFormed node rule) = codes "ill formed " ++ term_text node ++ codes " rule " ++ decimal rule
 shapes_text (Recursive shape) = codes "recursive " ++ term_text shape

@@ -32,8 +32,6 @@ pub enum DocumentRefusal {
 /// Why the graph of the shapes is refused.
 #[derive(Debug, PartialEq, Eq, Drop)]
 pub enum ShapesRefusal {
-    /// It has shapes of a part of SHACL that the command doesn't take yet.
-    NotReadYet,
     /// It has a triple with this predicate, which is of a part of SHACL that is left out.
     Unsupported { predicate: Term },
     /// The first ill-formed shape, and the smallest rule on shapes that it breaks.
@@ -110,7 +108,6 @@ impl ShapesRefusal {
         ensures { IfOk result (λ b. b ≡ shapes_text self.now) }
     {
         match self {
-            ShapesRefusal::NotReadYet => bytes_of(alloc, "not read yet"),
             ShapesRefusal::Unsupported { predicate } => words_of_term(
                 alloc,
                 "unsupported ",

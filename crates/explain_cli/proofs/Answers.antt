@@ -17,10 +17,6 @@ use Rattle.shapes_graph.specs.OrderLiterals.{IsCompared, is_out_of_reach}
 use Rattle.shapes_graph.specs.Results.{IsResult, HasNoResult}
 use Rattle.core_constraints.specs.declared.result_rows.ResultRow.{ResultRow}
 use Rattle.core_constraints.specs.Rows.{row_cmp, AreRowsOf}
-use Rattle.thin_repair.specs.Answer.{IsAnswer as IsFound}
-use Rattle.thin_repair.specs.ThinShapes.{IsThinShapes}
-use Rattle.thin_repair.specs.declared.explanation.Explanation.{Explanation}
-use Rattle.thin_repair.specs.declared.explanation.Explanation.TheVariants.{NotThin, TooMany as More, Pair, NoPair}
 use Rattle.proof_documents.specs.declared.refusal.ApplyRefusal.{ApplyRefusal}
 use Rattle.proof_documents.specs.declared.refusal.ApplyRefusal.TheVariants.{NoPair as ClaimsNoPair, OutsideData, OutOfMemory as NoMemory}
 use Rattle.proof_documents.specs.Document.{Document as Claim, IsWellFormed}
@@ -34,24 +30,21 @@ use Rattle.certificates.specs.Checks.{IsVerdict, IsRejection, IsNotAccepted, IsA
 use Rattle.certificates.specs.Shown.{IsShown}
 use Rattle.document_input.specs.declared.error.InputError.{InputError}
 use Rattle.document_input.specs.declared.error.InputError.TheVariants.{Unread, Refused, OutOfMemory}
-use Rattle.document_input.specs.declared.refusal.ShapesRefusal.TheVariants.{NotReadYet}
 use Rattle.document_input.specs.declared.refusal.ClaimRefusal.{ClaimRefusal}
 use Rattle.document_input.specs.declared.refusal.ClaimRefusal.TheVariants.{NoPair as NotOfPair, PairOutside}
 use Rattle.document_input.specs.declared.refusal.InputRefusal.{InputRefusal}
-use Rattle.document_input.specs.declared.refusal.InputRefusal.TheVariants.{Shapes as OfTheShapes, Claim as OfTheClaim}
+use Rattle.document_input.specs.declared.refusal.InputRefusal.TheVariants.{Claim as OfTheClaim}
 use Rattle.document_input.specs.NamedDocument.{IsGraph, IsClaim}
 use Rattle.document_input.specs.Reading.{Holds, HoldsIn}
 use Rattle.document_input.specs.Told.{Change, ShelfTold}
 use Rattle.document_input.proofs.Errors.{StopsIn}
 use Rattle.explain_cli.specs.declared.report.Report.{Report}
-use Rattle.explain_cli.specs.declared.status.Status.TheVariants.{Done, No, TooMany}
+use Rattle.explain_cli.specs.declared.status.Status.TheVariants.{Done, No}
 use Rattle.explain_cli.specs.Answer.{IsAnswerIn, CommandMeans}
-use Rattle.explain_cli.specs.ClaimText.{claim_of_pair, claim_of_none}
-use Rattle.explain_cli.specs.Commands.{IsErrorOf, IsErrorReport, AnswersCommand, Makes, ReportsRows, IsValidationReport, ReportsValidation, ReportsExplanation, IsEditedReport, ReportsEdited, IsVerdictReport, IsCheckReport, ReportsVerdict}
+use Rattle.explain_cli.specs.Commands.{IsErrorOf, IsErrorReport, AnswersCommand, ReportsRows, IsValidationReport, ReportsValidation, IsExplanationReport, ReportsExplanation, IsEditedReport, ReportsEdited, IsVerdictReport, IsCheckReport, ReportsVerdict}
 use Rattle.explain_cli.specs.Input.{Contents, documents_of, AreGraphsOf, AreComparable, IsUnfitInput, Names, names, Graphs, AreHeld, AreApplied, IsUnfitFor, AreJudged, graphs_of, setting_of, RefusesDocument, RefusesIn}
-use Rattle.explain_cli.specs.Notes.{too_many_line}
-use Rattle.explain_cli.specs.Reports.{answer, note}
 use Rattle.explain_cli.specs.Verdicts.{Accepts, Rejects, Judges}
+use Rattle.explain_cli.proofs.Explained.{spellable}
 
 -- ---- every command
 
@@ -65,11 +58,6 @@ stops command {shelf = shelf} {error = Refused refusal} stop = told command shel
     told command (Some held) refusal first = inl first
 stops command {shelf = shelf} {error = OutOfMemory} stop = tt
 
--- a report that is an answer, unless memory could not be had
-makes : (command : Command) (shelf : Change ShelfTold) (report : Report) (result : Result Report InputError) → IsAnswerIn command shelf.before.held report → Makes (λ r. r ≡ report) result → AnswersCommand command shelf result
-makes command shelf report (Ok r) right is = subst (IsAnswerIn command shelf.before.held) (sym is) right
-makes command shelf report (Err error) right is = subst (IsErrorOf command shelf) (sym is) tt
-
 -- the result is that the input is refused
 refused : (command : Command) (shelf : Change ShelfTold) (refusal : InputRefusal) (result : Result Report InputError) → RefusesIn command shelf.before.held refusal → result ≡ Err (Refused refusal) → AnswersCommand command shelf result
 refused command shelf refusal result first is = subst (AnswersCommand command shelf) (sym is) first
@@ -79,6 +67,11 @@ pub error_answers : (command : Command) (shelf : Change ShelfTold) (error : Inpu
 error_answers command shelf (Unread role) report cause texts = inr (inr (record { role = role; first = cause; texts = texts }))
 error_answers command shelf (Refused refusal) report cause texts = inr (inl (record { refusal = refusal; first = cause; texts = texts }))
 error_answers command shelf OutOfMemory report cause texts = absurd texts
+
+-- the graph of a document of data is lawful
+lawful_data : (name : List ℕ) (g : Graph) (held : Option (List ℕ)) → Holds (IsGraph OfData name g) held → AreLawful g × HasScope OfData g
+lawful_data name g None holds = absurd holds
+lawful_data name g (Some bytes) holds = (text_lawful bytes OfData g holds.text, text_has_scope bytes OfData g holds.text)
 
 -- ---- validate
 
@@ -137,31 +130,21 @@ pub record ReadsGraphs (held : Held) (n : Names) (g : Graphs) : Type 0 where
 are_held : (held : Contents) (n : Names) (g : Graphs) → ReadsGraphs (Some held) n g → AreHeld n held g
 are_held held n g reads = record { shapes = reads.shapes; present = reads.present; offered = reads.offered }
 
-not_thin : (s p o : List ℕ) (held : Held) (g : Graphs) → ReadsGraphs held (names s p o) g → ¬ (IsThinShapes g.shapes) → RefusesIn (Explain s p o) held (OfTheShapes NotReadYet)
-not_thin s p o None g reads thick = tt
-not_thin s p o (Some held) g reads thick = inr (record { graphs = g; documents = are_held held (names s p o) g reads; outside = thick; is = refl })
+explained : (s p o : List ℕ) (n : ℕ) (held : Held) (g : Graphs) (report : Report) → ReadsGraphs held (names s p o) g → IsExplanationReport g n report → IsAnswerIn (Explain s p o n) held report
+explained s p o n None g report reads is = is.status
+explained s p o n (Some held) g report reads is =
+    let spelled = spellable g.present g.offered (lawful_data p g.present (held p) reads.present) (lawful_data o g.offered (held o) reads.offered) g.shapes in
+    record { graphs = g; input = record { documents = are_held held (names s p o) g reads; profile = is.profile; comparable = is.comparable }; explained = is.explained spelled }
 
-too_many : (s p o : List ℕ) (held : Held) (g : Graphs) (n : ℕ) → ReadsGraphs held (names s p o) g → IsFound g.shapes g.present g.offered (More n) → IsAnswerIn (Explain s p o) held (note TooMany (too_many_line n))
-too_many s p o None g n reads found = inr (inr (inl refl))
-too_many s p o (Some held) g n reads found =
-    inr (inr (record { graphs = g; input = record { documents = are_held held (names s p o) g reads; profile = found.0 }; many = subst (λ k. 12 < k) found.1 found.2; texts = ap (λ k. note TooMany (too_many_line k)) found.1 }))
+unfit_for_repair : (s p o : List ℕ) (n : ℕ) (held : Held) (g : Graphs) (refusal : InputRefusal) → ReadsGraphs held (names s p o) g → IsUnfitInput g.shapes g.present g.offered refusal → RefusesIn (Explain s p o n) held refusal
+unfit_for_repair s p o n None g refusal reads unfit = tt
+unfit_for_repair s p o n (Some held) g refusal reads unfit = inr (record { graphs = g; documents = are_held held (names s p o) g reads; unfit = unfit })
 
-pair : (s p o : List ℕ) (held : Held) (g : Graphs) (a d : Graph) → ReadsGraphs held (names s p o) g → IsFound g.shapes g.present g.offered (Pair a d) → IsAnswerIn (Explain s p o) held (answer Done (claim_of_pair a d))
-pair s p o None g a d reads found = inl refl
-pair s p o (Some held) g a d reads found =
-    inl (record { graphs = g; input = record { documents = are_held held (names s p o) g reads; profile = found.0 }; few = found.1; adds = a; deletes = d; minimal = found.2; texts = refl })
-
-none : (s p o : List ℕ) (held : Held) (g : Graphs) → ReadsGraphs held (names s p o) g → IsFound g.shapes g.present g.offered NoPair → IsAnswerIn (Explain s p o) held (answer No claim_of_none)
-none s p o None g reads found = inr (inl refl)
-none s p o (Some held) g reads found =
-    inr (inl (record { graphs = g; input = record { documents = are_held held (names s p o) g reads; profile = found.0 }; few = found.1; none = found.2; texts = refl }))
-
-pub explains : (s p o : List ℕ) (shelf : Change ShelfTold) (g : Graphs) (found : Explanation) (result : Result Report InputError) → ReadsGraphs shelf.before.held (names s p o) g → IsFound g.shapes g.present g.offered found → ReportsExplanation found result
-    → AnswersCommand (Explain s p o) shelf result
-explains s p o shelf g NotThin result reads found is = refused (Explain s p o) shelf _ result (not_thin s p o shelf.before.held g reads found) is
-explains s p o shelf g (More n) result reads found is = makes (Explain s p o) shelf _ result (too_many s p o shelf.before.held g n reads found) is
-explains s p o shelf g (Pair a d) result reads found is = makes (Explain s p o) shelf _ result (pair s p o shelf.before.held g a d reads found) is
-explains s p o shelf g NoPair result reads found is = makes (Explain s p o) shelf _ result (none s p o shelf.before.held g reads found) is
+pub explains : (s p o : List ℕ) (n : ℕ) (shelf : Change ShelfTold) (g : Graphs) (result : Result Report InputError) → ReadsGraphs shelf.before.held (names s p o) g → ReportsExplanation g n result → AnswersCommand (Explain s p o n) shelf result
+explains s p o n shelf g (Ok report) reads is = explained s p o n shelf.before.held g report reads is
+explains s p o n shelf g (Err (Unread role)) reads is = absurd is
+explains s p o n shelf g (Err (Refused refusal)) reads is = unfit_for_repair s p o n shelf.before.held g refusal reads is
+explains s p o n shelf g (Err OutOfMemory) reads is = tt
 
 -- ---- apply
 
@@ -176,10 +159,6 @@ are_applied held p d g claim reads = record { present = reads.present; claimed =
 well_formed : (claim : Claim) (held : Option (List ℕ)) → Holds (IsClaim claim) held → IsWellFormed claim
 well_formed claim None holds = absurd holds
 well_formed claim (Some bytes) holds = holds.text.well_formed
-
-lawful_data : (name : List ℕ) (g : Graph) (held : Option (List ℕ)) → Holds (IsGraph OfData name g) held → AreLawful g × HasScope OfData g
-lawful_data name g None holds = absurd holds
-lawful_data name g (Some bytes) holds = (text_lawful bytes OfData g holds.text, text_has_scope bytes OfData g holds.text)
 
 lawful_edit : (held : Contents) (p d : List ℕ) (g : Graph) (claim : Claim) (made : Graph) → AreApplied p d held g claim → Edits g claim made → AreLawful made × HasScope OfData made
 lawful_edit held p d g claim made reads edits =

@@ -9,9 +9,10 @@ use Rattle.command_words.specs.Words.{words_of}
 use Rattle.document_input.specs.Told.{Change, ShelfTold}
 use Rattle.explain_cli.specs.declared.report.Report.{Report}
 use Rattle.explain_cli.specs.declared.status.Status.{Status}
-use Rattle.explain_cli.specs.declared.status.Status.TheVariants.{Done, No, Input, Read, Write, Memory, TooMany}
+use Rattle.explain_cli.specs.declared.status.Status.TheVariants.{Done, No, Input, Read, Write, Memory, Spent}
 use Rattle.explain_cli.specs.Answer.{IsOneOf, statuses_of, IsAnswer, IsAnswerIn, CommandMeans, MeansFor}
 use Rattle.explain_cli.specs.Causes.{cut_short}
+use Rattle.explain_cli.specs.Explanations.{IsExplained}
 use Rattle.explain_cli.specs.Input.{Contents, Refuses, RefusesIn}
 use Rattle.explain_cli.specs.Outcome.{SinkTold, Outcome}
 use Rattle.explain_cli.specs.Verdicts.{Judges}
@@ -21,13 +22,13 @@ use Rattle.explain_cli.proofs.Ready.{IsReady}
 
 -- the statuses that some command answers with
 abbrev pub own : List Status
-own = Done ∷ No ∷ TooMany ∷ []
+own = Done ∷ No ∷ Spent ∷ []
 
 pub own_statuses : (command : Command) (status : Status) → IsOneOf (statuses_of command) status → IsOneOf own status
 own_statuses (Validate s p) status (inl e) = inl e
 own_statuses (Validate s p) status (inr (inl e)) = inr (inl e)
 own_statuses (Validate s p) status (inr (inr e)) = absurd e
-own_statuses (Explain s p o) status is = is
+own_statuses (Explain s p o n) status is = is
 own_statuses (Apply p d) status (inl e) = inl e
 own_statuses (Apply p d) status (inr e) = absurd e
 own_statuses (Check s p o d) status (inl e) = inl e
@@ -38,12 +39,15 @@ judged_status : (s : Setting) (claim : Claim) (report : Report) → Judges s cla
 judged_status s claim report (inl accepts) = inl (ap (λ (r : Report). r.status) accepts.texts)
 judged_status s claim report (inr rejects) = inr (inl (ap (λ (r : Report). r.status) rejects.texts))
 
+explained_status : (s : Setting) (budget : ℕ) (report : Report) → IsExplained s budget report → IsOneOf (Done ∷ No ∷ Spent ∷ []) report.status
+explained_status s budget report (inl found) = inl (ap (λ (r : Report). r.status) found.written.texts)
+explained_status s budget report (inr (inl none)) = inr (inl (ap (λ (r : Report). r.status) none.written.texts))
+explained_status s budget report (inr (inr spent)) = inr (inr (inl (ap (λ (r : Report). r.status) spent.written.texts)))
+
 pub answer_status : (command : Command) (held : Contents) (report : Report) → IsAnswer command held report → IsOneOf (statuses_of command) report.status
 answer_status (Validate s p) held report (inl none) = inl (ap (λ (r : Report). r.status) none.texts)
 answer_status (Validate s p) held report (inr some) = inr (inl (ap (λ (r : Report). r.status) some.texts))
-answer_status (Explain s p o) held report (inl pair) = inl (ap (λ (r : Report). r.status) pair.texts)
-answer_status (Explain s p o) held report (inr (inl none)) = inr (inl (ap (λ (r : Report). r.status) none.texts))
-answer_status (Explain s p o) held report (inr (inr many)) = inr (inr (inl (ap (λ (r : Report). r.status) many.texts)))
+answer_status (Explain s p o n) held report answer = explained_status _ n report answer.explained
 answer_status (Apply p d) held report written = inl (ap (λ (r : Report). r.status) written.texts)
 answer_status (Check s p o d) held report judged = judged_status _ _ report judged.verdict
 
@@ -51,24 +55,22 @@ answer_status (Check s p o d) held report judged = judged_status _ _ report judg
 pub answer_ready : (command : Command) (held : Contents) (report : Report) → IsAnswer command held report → IsReady command held
 answer_ready (Validate s p) held report (inl none) = (none.shapes, none.present, none.input)
 answer_ready (Validate s p) held report (inr some) = (some.shapes, some.present, some.input)
-answer_ready (Explain s p o) held report (inl pair) = (pair.graphs, pair.input)
-answer_ready (Explain s p o) held report (inr (inl none)) = (none.graphs, none.input)
-answer_ready (Explain s p o) held report (inr (inr many)) = (many.graphs, many.input)
+answer_ready (Explain s p o n) held report answer = (answer.graphs, answer.input)
 answer_ready (Apply p d) held report written =
     record { present = written.present; claim = written.claim; documents = written.documents; made = written.made; edits = written.edits }
 answer_ready (Check s p o d) held report judged = (judged.graphs, judged.claim, judged.input)
 
 -- ---- every command
 
-status_in : (command : Command) (held : Held) (report : Report) → IsAnswerIn command held report → IsOneOf (statuses_of command) report.status
+pub status_in : (command : Command) (held : Held) (report : Report) → IsAnswerIn command held report → IsOneOf (statuses_of command) report.status
 status_in command None report answer = answer
 status_in command (Some held) report answer = answer_status command held report answer
 
-pub not_own : (s : Status) → s ≢ Done → s ≢ No → s ≢ TooMany → IsOneOf own s → ⊥
-not_own s done none many (inl e) = done e
-not_own s done none many (inr (inl e)) = none e
-not_own s done none many (inr (inr (inl e))) = many e
-not_own s done none many (inr (inr (inr e))) = e
+pub not_own : (s : Status) → s ≢ Done → s ≢ No → s ≢ Spent → IsOneOf own s → ⊥
+not_own s done none spent (inl e) = done e
+not_own s done none spent (inr (inl e)) = none e
+not_own s done none spent (inr (inr (inl e))) = spent e
+not_own s done none spent (inr (inr (inr e))) = e
 
 pub not_cut : (s : Status) → s ≢ Read → s ≢ Write → s ≢ Memory → IsOneOf cut_short s → ⊥
 not_cut s read write memory (inl e) = read e

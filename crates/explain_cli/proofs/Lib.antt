@@ -1,5 +1,6 @@
 pub mod Answers
 pub mod Endings
-pub mod Lines
+pub mod Explained
+pub mod NamedAtoms
 pub mod Ready
 pub mod StatusCauses

@@ -5,7 +5,6 @@ use Rattle.rdf_terms.specs.Graph.{Graph, empty}
 use Rattle.shapes_profile.specs.declared.refusals.ShapeRefusal.{ShapeRefusal}
 use Rattle.shapes_profile.specs.Logic.{IsFirst, NoneOf}
 use Rattle.shapes_profile.specs.Profile.{IsInProfile, IsFault}
-use Rattle.thin_repair.specs.ThinShapes.{IsThinShapes}
 use Rattle.proof_documents.specs.Document.{Document as Claim}
 use Rattle.proof_documents.specs.Applying.{Edits}
 use Rattle.proof_documents.proofs.Applied.{not_both}
@@ -24,8 +23,8 @@ use Rattle.explain_cli.specs.Input.{Contents, documents_of, AreGraphsOf, AreComp
 validate_in_order : (s p : List ℕ) (held : Contents) (t g : Graph) → AreGraphsOf s p held t g → AreInOrder held (documents_of (Validate s p))
 validate_in_order s p held t g reads = (graph_in_order (Some held) Shapes s t reads.shapes, (graph_in_order (Some held) Data p g reads.present, tt))
 
-explain_in_order : (n : Names) (held : Contents) (g : Graphs) → AreHeld n held g → AreInOrder held (documents_of (Explain n.shapes n.present n.offered))
-explain_in_order n held g reads =
+explain_in_order : (n : Names) (budget : ℕ) (held : Contents) (g : Graphs) → AreHeld n held g → AreInOrder held (documents_of (Explain n.shapes n.present n.offered budget))
+explain_in_order n budget held g reads =
     (graph_in_order (Some held) Shapes n.shapes g.shapes reads.shapes, (graph_in_order (Some held) Data n.present g.present reads.present, (graph_in_order (Some held) Offered n.offered g.offered reads.offered, tt)))
 
 apply_in_order : (p d : List ℕ) (held : Contents) (g : Graph) (claim : Claim) → AreApplied p d held g claim → AreInOrder held (documents_of (Apply p d))
@@ -94,7 +93,7 @@ pub record IsFit (p d : List ℕ) (held : Contents) : Type 0 where
 -- the input of a command is in order
 abbrev pub IsReady : Command → Contents → Type 0
 IsReady (Validate s p) held = (t : Graph) × (g : Graph) × IsValidationInput s p held t g
-IsReady (Explain s p o) held = (g : Graphs) × IsInput (names s p o) held g
+IsReady (Explain s p o n) held = (g : Graphs) × IsInput (names s p o) held g
 IsReady (Apply p d) held = IsFit p d held
 IsReady (Check s p o d) held = (g : Graphs) × (claim : Claim) × IsCheckInput (names s p o) d held g claim
 
@@ -107,10 +106,13 @@ ready_unrefused (Validate s p) held ready refuses =
           let unfit = subst (λ (t : Graph). IsUnfitInput t ready.1 empty refuses.0) (sym same.0) (subst (λ (g : Graph). IsUnfitInput behind.shapes g empty refuses.0) (sym same.1) behind.unfit) in
           valid_fits ready.0 ready.1 empty refuses.0 ready.2.profile ready.2.comparable unfit
     ]
-ready_unrefused (Explain s p o) held ready refuses =
+ready_unrefused (Explain s p o n) held ready refuses =
     elim refuses.1 [
-      | inl first ↦ documents_unrefused (documents_of (Explain s p o)) held refuses.0 (explain_in_order (names s p o) held ready.0 ready.1.documents) first
-      | inr behind ↦ behind.outside (subst (λ (g : Graphs). IsThinShapes g.shapes) (one_input (names s p o) held ready.0 behind.graphs ready.1.documents behind.documents) ready.1.profile)
+      | inl first ↦ documents_unrefused (documents_of (Explain s p o n)) held refuses.0 (explain_in_order (names s p o) n held ready.0 ready.1.documents) first
+      | inr behind ↦
+          let same = one_input (names s p o) held ready.0 behind.graphs ready.1.documents behind.documents in
+          let unfit = subst (λ (g : Graphs). IsUnfitInput g.shapes g.present g.offered refuses.0) (sym same) behind.unfit in
+          valid_fits ready.0.shapes ready.0.present ready.0.offered refuses.0 ready.1.profile ready.1.comparable unfit
     ]
 ready_unrefused (Apply p d) held ready refuses =
     elim refuses.1 [

@@ -1,11 +1,9 @@
 -- When each status comes, by how the call ends.
-use Rattle.std.proofs.Common.{◌≡◌, ℕ, ◌<◌, ◌≤◌, ◌⊎◌, inl, inr, List, [], ◌∷◌, Some, Result, Ok, Err, IsErr, refl, sym, ap, ◌∙◌, subst, arith}
-use Rattle.rdf_terms.specs.Graph.{Graph, without}
-use Rattle.shapes_graph.specs.Conformance as shacl
+use Rattle.std.proofs.Common.{◌≡◌, ◌≢◌, ℕ, ◌⊎◌, inl, inr, List, [], ◌∷◌, Some, Result, Ok, Err, IsErr, refl, sym, ap, ◌∙◌, subst}
+use Rattle.rdf_terms.specs.Graph.{Graph, of_list, without}
+use Rattle.shapes_graph.specs.Conformance.{Conforms}
 use Rattle.shelf_io.specs.Held.{Held}
-use Rattle.thin_repair.specs.Answer.{candidate_count}
-use Rattle.thin_repair.specs.Conformance.{Conforms}
-use Rattle.repair_problem.specs.Repair.{NoneExplains}
+use Rattle.repair_problem.specs.Repair.{Explains as DoesExplain, NoneExplains}
 use Rattle.proof_documents.specs.Document.{Document as Claim}
 use Rattle.certificates.specs.Checks.{IsAcceptedDocument}
 use Rattle.command_words.specs.declared.words.Command.{Command}
@@ -16,12 +14,12 @@ use Rattle.document_input.proofs.Errors.{none_unread}
 use Rattle.document_input.proofs.Unrefused.{one_claim}
 use Rattle.explain_cli.specs.declared.report.Report.{Report}
 use Rattle.explain_cli.specs.declared.status.Status.{Status}
-use Rattle.explain_cli.specs.declared.status.Status.TheVariants.{No, Usage, Input, Write, Memory, TooMany, Spent}
-use Rattle.explain_cli.specs.Answer.{IsOneOf, statuses_of, IsAnswerIn, ClaimsPair, CommandMeans, MeansFor}
-use Rattle.explain_cli.specs.Causes.{cut_short, HasViolation, IsTooMuch, HasNoPair, HasRejection, CommandCauses, InputCauses, IsUndisturbed, Causes}
+use Rattle.explain_cli.specs.declared.status.Status.TheVariants.{Done, No, Usage, Input, Read, Write, Memory, Spent}
+use Rattle.explain_cli.specs.Answer.{IsOneOf, statuses_of, IsAnswer, IsAnswerIn, CommandMeans, MeansFor}
+use Rattle.explain_cli.specs.Causes.{cut_short, HasViolation, HasPair, HasNoPair, HasSmallBudget, HasRejection, ExplainCauses, CommandCauses, InputCauses, Searches, IsUndisturbed, Causes}
 use Rattle.explain_cli.specs.Input.{Contents, documents_of, Names, names, Graphs, IsInput, setting_of, Refuses, RefusesIn}
 use Rattle.explain_cli.specs.Outcome.{SinkTold, Outcome}
-use Rattle.explain_cli.proofs.Endings.{own, own_statuses, answer_status, answer_ready, not_own, not_cut, not_answered, EndedAs, ended, Settled, settled}
+use Rattle.explain_cli.proofs.Endings.{own, own_statuses, answer_status, answer_ready, status_in, not_own, not_cut, not_answered, EndedAs, ended, Settled, settled}
 use Rattle.explain_cli.proofs.Ready.{one_input, one_validated, ready_unrefused}
 
 -- ---- the words
@@ -37,11 +35,27 @@ usage_always (Err position) shelf status (inl end) wrong = inl (end.1 ∙ ap (λ
 usage_always (Ok command) shelf status (inl end) wrong = absurd cc
 usage_always r shelf status (inr cut) wrong = inr cut
 
-never_spent : (r : Result Command ℕ) (shelf : Change ShelfTold) (status : Status) → EndedAs r shelf status → status ≡ Spent → ⊥
-never_spent (Err position) shelf status (inl end) e = let usage = ap (λ (r : Report). r.status) end.2 in let is = end.1 in cc
-never_spent (Ok command) shelf status (inl end) e =
-    not_answered command shelf end.0 Spent (λ d. cc) (λ d. cc) (not_own Spent (λ d. cc) (λ d. cc) (λ d. cc)) end.2 (sym e ∙ end.1)
-never_spent r shelf status (inr cut) e = not_cut Spent (λ d. cc) (λ d. cc) (λ d. cc) (inr (subst (IsOneOf (Write ∷ Memory ∷ [])) e cut))
+-- only `explain` answers so
+spent_command : (command : Command) → IsOneOf (statuses_of command) Spent → Searches (Ok command)
+spent_command (Validate s p) (inl e) = absurd cc
+spent_command (Validate s p) (inr (inl e)) = absurd cc
+spent_command (Validate s p) (inr (inr e)) = absurd e
+spent_command (Explain s p o n) is = tt
+spent_command (Apply p d) (inl e) = absurd cc
+spent_command (Apply p d) (inr e) = absurd e
+spent_command (Check s p o d) (inl e) = absurd cc
+spent_command (Check s p o d) (inr (inl e)) = absurd cc
+spent_command (Check s p o d) (inr (inr e)) = absurd e
+
+spent_meant : (command : Command) (shelf : Change ShelfTold) (report : Report) → CommandMeans command shelf report → report.status ≡ Spent → Searches (Ok command)
+spent_meant command shelf report (inl answer) e = spent_command command (subst (IsOneOf (statuses_of command)) e (status_in command shelf.before.held report answer))
+spent_meant command shelf report (inr (inl refusal)) e = let other = ap (λ (r : Report). r.status) refusal.texts in absurd cc
+spent_meant command shelf report (inr (inr fault)) e = let other = ap (λ (r : Report). r.status) fault.texts in absurd cc
+
+spent_only : (r : Result Command ℕ) (shelf : Change ShelfTold) (status : Status) → EndedAs r shelf status → status ≡ Spent → Searches r
+spent_only (Err position) shelf status (inl end) e = let usage = ap (λ (r : Report). r.status) end.2 in let is = end.1 in absurd cc
+spent_only (Ok command) shelf status (inl end) e = spent_meant command shelf end.0 end.2 (sym end.1 ∙ e)
+spent_only r shelf status (inr cut) e = absurd (not_cut Spent (λ d. cc) (λ d. cc) (λ d. cc) (inr (subst (IsOneOf (Write ∷ Memory ∷ [])) e cut)))
 
 -- ---- refusals of the input
 
@@ -71,69 +85,95 @@ violated_always s p held status (inr (inl end)) violated =
     elim end.2 [
       | inl none ↦
           let same = one_validated s p held violated.0 violated.1 none.shapes none.present violated.2.documents none.input.documents in
-          absurd (none.conforming (subst (λ (t : Graph). ¬ (shacl.Conforms t none.present)) same.0 (subst (λ (g : Graph). ¬ (shacl.Conforms violated.0 g)) same.1 violated.3)))
+          absurd (none.conforming (subst (λ (t : Graph). ¬ (Conforms t none.present)) same.0 (subst (λ (g : Graph). ¬ (Conforms violated.0 g)) same.1 violated.3)))
       | inr some ↦ inl (end.1 ∙ ap (λ (r : Report). r.status) some.texts)
     ]
 violated_always s p held status (inr (inr cut)) violated = inr cut
 
 -- ---- the statuses of `explain`
 
--- graphs of one input that are few are not many
-few_or_many : (n : Names) (held : Contents) (g h : Graphs) → IsInput n held g → IsInput n held h → candidate_count g.present g.offered ≤ 12 → 12 < candidate_count h.present h.offered → ⊥
-few_or_many n held g h a b few many =
-    let count = ap (λ (k : Graphs). candidate_count k.present k.offered) (one_input n held g h a.documents b.documents) in
-    omega (arith, count)
-
 -- a pair that explains, and none
-pair_or_none : (n : Names) (held : Contents) (report : Report) → HasNoPair n held → ClaimsPair n held report → ⊥
-pair_or_none n held report none claim =
-    let same = one_input n held none.0 claim.graphs none.1.documents claim.input.documents in
-    let unexplained = subst (λ (k : Graphs). NoneExplains (Conforms k.shapes) k.present (without k.offered k.present)) same none.3 in
-    unexplained claim.adds claim.deletes claim.minimal.explains
+pair_or_none : (n : Names) (held : Contents) (g h : Graphs) (adds deletes : Graph) → IsInput n held g → IsInput n held h → DoesExplain (Conforms g.shapes) g.present (without g.offered g.present) adds deletes → NoneExplains (Conforms h.shapes) h.present (without h.offered h.present) → ⊥
+pair_or_none n held g h adds deletes a b explains none =
+    let same = one_input n held h g b.documents a.documents in
+    let unexplained = subst (λ (k : Graphs). NoneExplains (Conforms k.shapes) k.present (without k.offered k.present)) same none in
+    unexplained adds deletes explains
 
-many_only : (s p o : List ℕ) (held : Contents) (status : Status) → Settled (Explain s p o) held status → status ≡ TooMany → IsTooMuch (names s p o) held
-many_only s p o held status (inl refused) e = let other = refused.0 in absurd cc
-many_only s p o held status (inr (inl end)) e =
-    let is : TooMany ≡ end.0.status = sym e ∙ end.1 in
-    elim end.2 [
-      | inl pair ↦ let other = ap (λ (r : Report). r.status) pair.texts in absurd cc
-      | inr others ↦ elim others [ inl none ↦ let other = ap (λ (r : Report). r.status) none.texts in absurd cc | inr many ↦ (many.graphs, many.input, many.many) ]
-    ]
-many_only s p o held status (inr (inr cut)) e = absurd (not_cut TooMany (λ d. cc) (λ d. cc) (λ d. cc) (subst (IsOneOf cut_short) e cut))
+module _ (s p o : List ℕ) (n : ℕ) (held : Contents) where
+  abbrev Answered : Status → Type 0
+  Answered status = (report : Report) × (status ≡ report.status) × IsAnswer (Explain s p o n) held report
 
-many_always : (s p o : List ℕ) (held : Contents) (status : Status) → Settled (Explain s p o) held status → IsTooMuch (names s p o) held → (status ≡ TooMany) ⊎ IsOneOf cut_short status
-many_always s p o held status (inl refused) much = absurd (ready_unrefused (Explain s p o) held (much.0, much.1) refused.1)
-many_always s p o held status (inr (inl end)) much =
-    elim end.2 [
-      | inl pair ↦ absurd (few_or_many (names s p o) held pair.graphs much.0 pair.input much.1 pair.few much.2)
-      | inr others ↦ elim others [
-        | inl none ↦ absurd (few_or_many (names s p o) held none.graphs much.0 none.input much.1 none.few much.2)
-        | inr many ↦ inl (end.1 ∙ ap (λ (r : Report). r.status) many.texts)
+  answered_pair : (status : Status) → Answered status → status ≡ Done → HasPair (names s p o) held
+  answered_pair status end e =
+      let is : Done ≡ end.0.status = sym e ∙ end.1 in
+      elim end.2.explained [
+        | inl found ↦ (end.2.graphs, of_list found.document.adds, of_list found.document.deletes, end.2.input, found.minimal.explains)
+        | inr others ↦ elim others [
+          | inl none ↦ let other = ap (λ (r : Report). r.status) none.written.texts in absurd cc
+          | inr spent ↦ let other = ap (λ (r : Report). r.status) spent.written.texts in absurd cc
+        ]
       ]
-    ]
-many_always s p o held status (inr (inr cut)) much = inr cut
 
-none_only : (s p o : List ℕ) (held : Contents) (status : Status) → Settled (Explain s p o) held status → status ≡ No → HasNoPair (names s p o) held
-none_only s p o held status (inl refused) e = let other = refused.0 in absurd cc
-none_only s p o held status (inr (inl end)) e =
-    let is : No ≡ end.0.status = sym e ∙ end.1 in
-    elim end.2 [
-      | inl pair ↦ let other = ap (λ (r : Report). r.status) pair.texts in absurd cc
-      | inr others ↦ elim others [ inl none ↦ (none.graphs, none.input, none.few, none.none) | inr many ↦ let other = ap (λ (r : Report). r.status) many.texts in absurd cc ]
-    ]
-none_only s p o held status (inr (inr cut)) e = absurd (not_cut No (λ d. cc) (λ d. cc) (λ d. cc) (subst (IsOneOf cut_short) e cut))
-
-none_always : (s p o : List ℕ) (held : Contents) (status : Status) → Settled (Explain s p o) held status → HasNoPair (names s p o) held → (status ≡ No) ⊎ IsOneOf cut_short status
-none_always s p o held status (inl refused) none = absurd (ready_unrefused (Explain s p o) held (none.0, none.1) refused.1)
-none_always s p o held status (inr (inl end)) none =
-    elim end.2 [
-      | inl pair ↦ absurd (pair_or_none (names s p o) held end.0 none pair)
-      | inr others ↦ elim others [
-        | inl shown ↦ inl (end.1 ∙ ap (λ (r : Report). r.status) shown.texts)
-        | inr many ↦ absurd (few_or_many (names s p o) held none.0 many.graphs none.1 many.input none.2 many.many)
+  answered_none : (status : Status) → Answered status → status ≡ No → HasNoPair (names s p o) held
+  answered_none status end e =
+      let is : No ≡ end.0.status = sym e ∙ end.1 in
+      elim end.2.explained [
+        | inl found ↦ let other = ap (λ (r : Report). r.status) found.written.texts in absurd cc
+        | inr others ↦ elim others [
+          | inl none ↦ (end.2.graphs, end.2.input, none.none)
+          | inr spent ↦ let other = ap (λ (r : Report). r.status) spent.written.texts in absurd cc
+        ]
       ]
-    ]
-none_always s p o held status (inr (inr cut)) none = inr cut
+
+  answered_spent : (status : Status) → Answered status → status ≡ Spent → HasSmallBudget (names s p o) n held
+  answered_spent status end e =
+      let is : Spent ≡ end.0.status = sym e ∙ end.1 in
+      elim end.2.explained [
+        | inl found ↦ let other = ap (λ (r : Report). r.status) found.written.texts in absurd cc
+        | inr others ↦ elim others [
+          | inl none ↦ let other = ap (λ (r : Report). r.status) none.written.texts in absurd cc
+          | inr spent ↦ (end.2.graphs, end.2.input, spent.bound)
+        ]
+      ]
+
+  -- a fact of the answer holds where the call was neither refused nor cut short
+  of_answer : (own : Status) (P : Type 0) (status : Status) → own ≢ Input → own ≢ Read → own ≢ Write → own ≢ Memory → (Answered status → status ≡ own → P) → Settled (Explain s p o n) held status → status ≡ own → P
+  of_answer own P status input read write memory tells (inl refused) e = absurd (input (sym e ∙ refused.0))
+  of_answer own P status input read write memory tells (inr (inl end)) e = tells end e
+  of_answer own P status input read write memory tells (inr (inr cut)) e = absurd (not_cut own read write memory (subst (IsOneOf cut_short) e cut))
+
+  pair_always : (status : Status) → Settled (Explain s p o n) held status → HasPair (names s p o) held → (status ≡ Done) ⊎ IsOneOf (Spent ∷ cut_short) status
+  pair_always status (inl refused) pair = absurd (ready_unrefused (Explain s p o n) held (pair.0, pair.3) refused.1)
+  pair_always status (inr (inl end)) pair =
+      elim end.2.explained [
+        | inl found ↦ inl (end.1 ∙ ap (λ (r : Report). r.status) found.written.texts)
+        | inr others ↦ elim others [
+          | inl none ↦ absurd (pair_or_none (names s p o) held pair.0 end.2.graphs pair.1 pair.2 pair.3 end.2.input pair.4 none.none)
+          | inr spent ↦ inr (inl (end.1 ∙ ap (λ (r : Report). r.status) spent.written.texts))
+        ]
+      ]
+  pair_always status (inr (inr cut)) pair = inr (inr cut)
+
+  none_always : (status : Status) → Settled (Explain s p o n) held status → HasNoPair (names s p o) held → (status ≡ No) ⊎ IsOneOf (Spent ∷ cut_short) status
+  none_always status (inl refused) none = absurd (ready_unrefused (Explain s p o n) held (none.0, none.1) refused.1)
+  none_always status (inr (inl end)) none =
+      elim end.2.explained [
+        | inl found ↦
+            absurd (pair_or_none (names s p o) held end.2.graphs none.0 (of_list found.document.adds) (of_list found.document.deletes) end.2.input none.1 found.minimal.explains none.2)
+        | inr others ↦ elim others [
+          | inl shown ↦ inl (end.1 ∙ ap (λ (r : Report). r.status) shown.written.texts)
+          | inr spent ↦ inr (inl (end.1 ∙ ap (λ (r : Report). r.status) spent.written.texts))
+        ]
+      ]
+  none_always status (inr (inr cut)) none = inr (inr cut)
+
+  explain_causes : (status : Status) → Settled (Explain s p o n) held status → ExplainCauses (names s p o) n held status
+  explain_causes status end =
+      record {
+        pair = record { only = of_answer Done _ status (λ d. cc) (λ d. cc) (λ d. cc) (λ d. cc) (answered_pair status) end; always = pair_always status end };
+        none = record { only = of_answer No _ status (λ d. cc) (λ d. cc) (λ d. cc) (λ d. cc) (answered_none status) end; always = none_always status end };
+        spent = of_answer Spent _ status (λ d. cc) (λ d. cc) (λ d. cc) (λ d. cc) (answered_spent status) end;
+      }
 
 -- ---- the status of `check`
 
@@ -161,8 +201,7 @@ rejected_always s p o d held status (inr (inr cut)) rejected = inr cut
 
 own_causes : (command : Command) (held : Contents) (status : Status) → Settled command held status → CommandCauses command held status
 own_causes (Validate s p) held status end = record { only = violated_only s p held status end; always = violated_always s p held status end }
-own_causes (Explain s p o) held status end =
-    (record { only = many_only s p o held status end; always = many_always s p o held status end }, record { only = none_only s p o held status end; always = none_always s p o held status end })
+own_causes (Explain s p o n) held status end = explain_causes s p o n held status end
 own_causes (Apply p d) held status end = tt
 own_causes (Check s p o d) held status end = record { only = rejected_only s p o d held status end; always = rejected_always s p o d held status end }
 
@@ -197,7 +236,7 @@ causes words shelf out notes status outcome =
     let end = ended words shelf out notes status outcome in
     record {
       usage = record { only = usage_only (words_of words) shelf status end; always = usage_always (words_of words) shelf status end };
-      never_spent = never_spent (words_of words) shelf status end;
+      spent = spent_only (words_of words) shelf status end;
       input = λ command held is told. input_causes command held status (settled command held shelf status told (subst (λ (r : Result Command ℕ). EndedAs r shelf status) is end));
       complete = λ command held is told kept calm. complete command held words shelf out notes status is told kept calm outcome;
     }

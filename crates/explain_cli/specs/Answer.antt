@@ -1,7 +1,7 @@
 -- The right answers to the words, over what is held under the names. A new command adds a line to `statuses_of`
 -- and one to `IsAnswer`, with the records that the latter names.
-use Rattle.std.specs.Prelude.{◌≡◌, ◌≢◌, ℕ, ◌<◌, ◌≤◌, ◌⊎◌, List, [], ◌∷◌, None, Some, Result, Ok, Err}
-use Rattle.rdf_terms.specs.Graph.{Graph, without}
+use Rattle.std.specs.Prelude.{◌≡◌, ◌≢◌, ℕ, ◌⊎◌, List, [], ◌∷◌, None, Some, Result, Ok, Err}
+use Rattle.rdf_terms.specs.Graph.{Graph}
 use Rattle.rdf_terms.specs.declared.term.Scope.TheVariants.{Data as OfData}
 use Rattle.ntriples_io.specs.CanonicalText.{graph_text}
 use Rattle.ntriples_io.specs.Text.{NtText}
@@ -11,9 +11,6 @@ use Rattle.shapes_graph.specs.Results.{IsResult, HasNoResult}
 use Rattle.core_constraints.specs.declared.result_rows.ResultRow.{ResultRow}
 use Rattle.core_constraints.specs.Rows.{row_cmp, AreRowsOf}
 use Rattle.report_writer.specs.Report.{report_text}
-use Rattle.thin_repair.specs.Answer.{candidate_count}
-use Rattle.thin_repair.specs.Conformance.{Conforms}
-use Rattle.repair_problem.specs.Repair.{Minimal, NoneExplains}
 use Rattle.proof_documents.specs.Document.{Document as Claim}
 use Rattle.proof_documents.specs.Applying.{Edits}
 use Rattle.shelf_io.specs.Held.{Held}
@@ -28,11 +25,11 @@ use Rattle.document_input.specs.Reading.{IsErrorIn}
 use Rattle.document_input.specs.Told.{Change, ShelfTold}
 use Rattle.explain_cli.specs.declared.report.Report.{Report}
 use Rattle.explain_cli.specs.declared.status.Status.{Status}
-use Rattle.explain_cli.specs.declared.status.Status.TheVariants.{Done, No, Usage, Input, Read, TooMany}
-use Rattle.explain_cli.specs.ClaimText.{claim_of_pair, claim_of_none}
+use Rattle.explain_cli.specs.declared.status.Status.TheVariants.{Done, No, Usage, Input, Read, Spent}
+use Rattle.explain_cli.specs.Explanations.{IsExplained}
 use Rattle.explain_cli.specs.Input.{Contents, documents_of, Names, names, Graphs, IsInput, AreApplied, RefusesIn}
 use Rattle.explain_cli.specs.Input.{IsValidationInput, IsCheckInput, setting_of}
-use Rattle.explain_cli.specs.Notes.{usage_line, input_line, read_line, too_many_line}
+use Rattle.explain_cli.specs.Notes.{usage_line, input_line, read_line}
 use Rattle.explain_cli.specs.Reports.{answer, note}
 use Rattle.explain_cli.specs.Verdicts.{Judges}
 
@@ -44,7 +41,7 @@ IsOneOf (one ∷ others) status = (status ≡ one) ⊎ IsOneOf others status
 -- the statuses that a command answers with where nothing fails and its input is not refused
 abbrev pub statuses_of : Command → List Status
 statuses_of (Validate shapes present) = Done ∷ No ∷ []
-statuses_of (Explain shapes present offered) = Done ∷ No ∷ TooMany ∷ []
+statuses_of (Explain shapes present offered conflicts) = Done ∷ No ∷ Spent ∷ []
 statuses_of (Apply present document) = Done ∷ []
 statuses_of (Check shapes present offered document) = Done ∷ No ∷ []
 
@@ -74,30 +71,12 @@ pub record ReportsResults (shapes_name data_name : List ℕ) (held : Contents) (
 
 -- ---- explain
 
--- out is the claim of a pair that is minimal for the graphs of the documents
-pub record ClaimsPair (names : Names) (held : Contents) (report : Report) : Type 0 where
+-- out is the document of an accepted proof: of a minimal pair for the graphs of the named documents, or that no pair
+-- explains, or of as many steps as the budget
+pub record ExplainsGraphs (names : Names) (budget : ℕ) (held : Contents) (report : Report) : Type 0 where
   pub graphs : Graphs
   pub input : IsInput names held graphs
-  pub few : candidate_count graphs.present graphs.offered ≤ 12
-  pub adds : Graph
-  pub deletes : Graph
-  pub minimal : Minimal (Conforms graphs.shapes) graphs.present (without graphs.offered graphs.present) adds deletes
-  pub texts : report ≡ answer Done (claim_of_pair adds deletes)
-
--- out is the claim that no pair explains, and none does for the graphs of the documents
-pub record ClaimsNone (names : Names) (held : Contents) (report : Report) : Type 0 where
-  pub graphs : Graphs
-  pub input : IsInput names held graphs
-  pub few : candidate_count graphs.present graphs.offered ≤ 12
-  pub none : NoneExplains (Conforms graphs.shapes) graphs.present (without graphs.offered graphs.present)
-  pub texts : report ≡ answer No claim_of_none
-
--- the input is in order, and more than twelve triples could be deleted or added
-pub record HasTooMany (names : Names) (held : Contents) (report : Report) : Type 0 where
-  pub graphs : Graphs
-  pub input : IsInput names held graphs
-  pub many : 12 < candidate_count graphs.present graphs.offered
-  pub texts : report ≡ note TooMany (too_many_line (candidate_count graphs.present graphs.offered))
+  pub explained : IsExplained (setting_of graphs) budget report
 
 -- ---- apply
 
@@ -126,9 +105,8 @@ pub record JudgesClaim (names : Names) (claim_name : List ℕ) (held : Contents)
 abbrev pub IsAnswer : Command → Contents → Report → Type 0
 IsAnswer (Validate shapes present) held report =
     ReportsNone shapes present held report ⊎ ReportsResults shapes present held report
-IsAnswer (Explain shapes present offered) held report =
-    let n = names shapes present offered in
-    ClaimsPair n held report ⊎ ClaimsNone n held report ⊎ HasTooMany n held report
+IsAnswer (Explain shapes present offered conflicts) held report =
+    ExplainsGraphs (names shapes present offered) conflicts held report
 IsAnswer (Apply present document) held report = WritesEdited present document held report
 IsAnswer (Check shapes present offered document) held report =
     JudgesClaim (names shapes present offered) document held report

@@ -1,11 +1,9 @@
 -- When each status comes: what is true where a call ends with it, and where it has to.
-use Rattle.std.specs.Prelude.{◌≡◌, ◌≢◌, ℕ, ◌<◌, ◌≤◌, ◌⊎◌, List, [], ◌∷◌, Some, Ok, IsErr}
+use Rattle.std.specs.Prelude.{◌≡◌, ℕ, ◌⊎◌, List, [], ◌∷◌, Some, Result, Ok, Err, IsErr}
 use Rattle.std.specs.List.{All}
 use Rattle.rdf_terms.specs.Graph.{Graph, without}
-use Rattle.shapes_graph.specs.Conformance as shacl
-use Rattle.thin_repair.specs.Answer.{candidate_count}
-use Rattle.thin_repair.specs.Conformance.{Conforms}
-use Rattle.repair_problem.specs.Repair.{NoneExplains}
+use Rattle.shapes_graph.specs.Conformance.{Conforms}
+use Rattle.repair_problem.specs.Repair.{Explains, NoneExplains}
 use Rattle.proof_documents.specs.Document.{Document as Claim}
 use Rattle.certificates.specs.Checks.{IsAcceptedDocument}
 use Rattle.command_words.specs.declared.words.Command.{Command}
@@ -15,8 +13,9 @@ use Rattle.document_input.specs.NamedDocument.{NamedDocument}
 use Rattle.document_input.specs.Reading.{RoseFor}
 use Rattle.document_input.specs.Told.{Change, ShelfTold}
 use Rattle.explain_cli.specs.declared.status.Status.{Status}
-use Rattle.explain_cli.specs.declared.status.Status.TheVariants.{No, Usage, Input, Read, Write, Memory, TooMany, Spent}
+use Rattle.explain_cli.specs.declared.status.Status.TheVariants.{Done, No, Usage, Input, Read, Write, Memory, Spent}
 use Rattle.explain_cli.specs.Answer.{IsOneOf, statuses_of}
+use Rattle.explain_cli.specs.Explanations.{IsWithinBound}
 use Rattle.explain_cli.specs.Input.{Contents, documents_of, IsValidationInput, Names, names, Graphs, IsInput, Refuses}
 use Rattle.explain_cli.specs.Input.{IsCheckInput, setting_of}
 use Rattle.explain_cli.specs.Outcome.{SinkTold, RoseIn}
@@ -34,17 +33,29 @@ cut_short = Read ∷ Write ∷ Memory ∷ []
 -- the input is in order, and the data does not conform to the shapes
 abbrev pub HasViolation : List ℕ → List ℕ → Contents → Type 0
 HasViolation shapes_name data_name held =
-    (s : Graph) × (g : Graph) × IsValidationInput shapes_name data_name held s g × ¬ (shacl.Conforms s g)
+    (s : Graph) × (g : Graph) × IsValidationInput shapes_name data_name held s g × ¬ (Conforms s g)
 
--- the input is in order, and there are more candidates than are tried
-abbrev pub IsTooMuch : Names → Contents → Type 0
-IsTooMuch names held = (g : Graphs) × IsInput names held g × (12 < candidate_count g.present g.offered)
+-- the input is in order, and some pair explains
+abbrev pub HasPair : Names → Contents → Type 0
+HasPair names held =
+    (g : Graphs) × (adds : Graph) × (deletes : Graph) × IsInput names held g
+    × Explains (Conforms g.shapes) g.present (without g.offered g.present) adds deletes
 
--- the input is in order, few triples are candidates, and no pair explains
+-- the input is in order, and no pair explains
 abbrev pub HasNoPair : Names → Contents → Type 0
 HasNoPair names held =
-    (g : Graphs) × IsInput names held g × (candidate_count g.present g.offered ≤ 12)
-    × NoneExplains (Conforms g.shapes) g.present (without g.offered g.present)
+    (g : Graphs) × IsInput names held g × NoneExplains (Conforms g.shapes) g.present (without g.offered g.present)
+
+-- the input is in order, and the budget is at most 3^a, by the number a of its atoms
+abbrev pub HasSmallBudget : Names → ℕ → Contents → Type 0
+HasSmallBudget names budget held = (g : Graphs) × IsInput names held g × IsWithinBound (setting_of g) budget
+
+-- the statuses of `explain`
+pub record ExplainCauses (names : Names) (budget : ℕ) (held : Contents) (status : Status) : Type 0 where
+  pub pair : ComesExactly Done (Spent ∷ cut_short) (HasPair names held) status
+  pub none : ComesExactly No (Spent ∷ cut_short) (HasNoPair names held) status
+  -- so a budget over 3^a is never spent
+  pub spent : status ≡ Spent → HasSmallBudget names budget held
 
 -- the input is in order, and the claim is not accepted
 abbrev pub HasRejection : Names → List ℕ → Contents → Type 0
@@ -56,9 +67,8 @@ HasRejection names claim_name held =
 abbrev pub CommandCauses : Command → Contents → Status → Type 0
 CommandCauses (Validate shapes present) held status =
     ComesExactly No cut_short (HasViolation shapes present held) status
-CommandCauses (Explain shapes present offered) held status =
-    let n = names shapes present offered in
-    ComesExactly TooMany cut_short (IsTooMuch n held) status × ComesExactly No cut_short (HasNoPair n held) status
+CommandCauses (Explain shapes present offered conflicts) held status =
+    ExplainCauses (names shapes present offered) conflicts held status
 CommandCauses (Apply present document) held status = Unit {0}
 CommandCauses (Check shapes present offered document) held status =
     ComesExactly No cut_short (HasRejection (names shapes present offered) document held) status
@@ -67,6 +77,11 @@ CommandCauses (Check shapes present offered document) held status =
 pub record InputCauses (command : Command) (held : Contents) (status : Status) : Type 0 where
   pub refused : ComesExactly Input cut_short (Refuses command held) status
   pub own : CommandCauses command held status
+
+-- only `explain` searches
+abbrev pub Searches : Result Command ℕ → Type 0
+Searches (Ok (Explain shapes present offered conflicts)) = Unit {0}
+Searches r = ⊥
 
 -- no pull of a named document and no write failed
 pub record IsUndisturbed (documents : List NamedDocument) (shelf : Change ShelfTold)
@@ -79,7 +94,7 @@ pub record IsUndisturbed (documents : List NamedDocument) (shelf : Change ShelfT
 pub record Causes (words : List (List ℕ)) (shelf : Change ShelfTold) (out notes : Change SinkTold)
     (status : Status) : Type 0 where
   pub usage : ComesExactly Usage (Write ∷ Memory ∷ []) (IsErr (words_of words)) status
-  pub never_spent : status ≢ Spent
+  pub spent : status ≡ Spent → Searches (words_of words)
   pub input : (command : Command) (held : Contents) → words_of words ≡ Ok command → shelf.before.held ≡ Some held
       → InputCauses command held status
   -- an input that is not refused is answered, unless the outside fails

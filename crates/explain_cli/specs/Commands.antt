@@ -1,5 +1,5 @@
 -- What the private functions of the commands say of their results.
-use Rattle.std.specs.Prelude.{◌≡◌, ◌≢◌, ◌↔◌, List, [], ◌∷◌, Result, Ok, Err, MatchResult}
+use Rattle.std.specs.Prelude.{◌≡◌, ◌≢◌, ◌↔◌, ℕ, List, [], ◌∷◌, Result, Ok, Err, MatchResult}
 use Rattle.std.specs.List.Sorted.{IsStrictlySortedBy}
 use Rattle.rdf_terms.specs.Graph.{Graph, empty}
 use Rattle.rdf_terms.specs.declared.term.Scope.TheVariants.{Data as OfData}
@@ -7,7 +7,9 @@ use Rattle.ntriples_io.specs.CanonicalText.{graph_text}
 use Rattle.ntriples_io.specs.RoundTrip.{HasScope}
 use Rattle.ntriples_io.specs.Text.{NtText, AreLawful}
 use Rattle.proof_lines.specs.declared.proof.Claim.{Claim as Claimed}
+use Rattle.proof_lines.specs.declared.proof.Claim.TheVariants as claimed
 use Rattle.proof_documents.specs.Document.{Document as Claim}
+use Rattle.certificates.specs.Writing.{IsSpellable}
 use Rattle.certificates.specs.declared.refusal.CheckRefusal.{CheckRefusal}
 use Rattle.certificates.specs.declared.refusal.CheckRefusal.TheVariants.{OutOfMemory as NoVerdict}
 use Rattle.proof_documents.specs.declared.refusal.ApplyRefusal.{ApplyRefusal}
@@ -19,23 +21,20 @@ use Rattle.shapes_graph.specs.Results.{IsResult}
 use Rattle.core_constraints.specs.declared.result_rows.ResultRow.{ResultRow}
 use Rattle.core_constraints.specs.Rows.{row_cmp, AreRowsOf}
 use Rattle.report_writer.specs.Report.{report_text}
-use Rattle.thin_repair.specs.declared.explanation.Explanation.{Explanation}
-use Rattle.thin_repair.specs.declared.explanation.Explanation.TheVariants.{NotThin, TooMany as More, Pair, NoPair}
 use Rattle.command_words.specs.declared.words.Command.{Command}
 use Rattle.document_input.specs.declared.error.InputError.{InputError}
 use Rattle.document_input.specs.declared.error.InputError.TheVariants.{Unread, Refused, OutOfMemory}
-use Rattle.document_input.specs.declared.refusal.ShapesRefusal.TheVariants.{NotReadYet}
 use Rattle.document_input.specs.declared.refusal.ClaimRefusal.TheVariants.{NoPair as NotOfPair, PairOutside}
 use Rattle.document_input.specs.declared.refusal.InputRefusal.TheVariants.{Shapes as OfTheShapes, Claim as OfTheClaim}
 use Rattle.document_input.specs.Reading.{IsErrorIn}
 use Rattle.document_input.specs.Told.{Change, ShelfTold}
 use Rattle.explain_cli.specs.declared.report.Report.{Report}
 use Rattle.explain_cli.specs.declared.status.Status.{Status}
-use Rattle.explain_cli.specs.declared.status.Status.TheVariants.{Done, No, Input, Read, TooMany}
-use Rattle.explain_cli.specs.Answer.{IsAnswerIn}
-use Rattle.explain_cli.specs.ClaimText.{claim_of_pair, claim_of_none}
+use Rattle.explain_cli.specs.declared.status.Status.TheVariants.{Done, No, Input, Read, Spent}
+use Rattle.explain_cli.specs.Answer.{IsOneOf, IsAnswerIn}
+use Rattle.explain_cli.specs.Explanations.{IsExplained}
 use Rattle.explain_cli.specs.Input.{documents_of, RefusesIn, AreComparable, IsOutside, IsUnfitInput, Graphs, setting_of}
-use Rattle.explain_cli.specs.Notes.{input_line, read_line, too_many_line, rejected_line}
+use Rattle.explain_cli.specs.Notes.{input_line, read_line, rejected_line}
 use Rattle.explain_cli.specs.Reports.{answer, note}
 use Rattle.explain_cli.specs.Verdicts.{accepted_line, Judges}
 
@@ -103,12 +102,22 @@ abbrev pub ReportsVerdict : Graphs → Claim → Result Report InputError → Ty
 ReportsVerdict g claim result =
     MatchResult result (IsCheckReport g claim) (IsUnfitError g.shapes g.present g.offered)
 
--- the report of what was found of the input of `explain`
-abbrev pub ReportsExplanation : Explanation → Result Report InputError → Type 0
-ReportsExplanation NotThin result = result ≡ Err (Refused (OfTheShapes NotReadYet))
-ReportsExplanation (More candidates) result = Makes (λ r. r ≡ note TooMany (too_many_line candidates)) result
-ReportsExplanation (Pair adds deletes) result = Makes (λ r. r ≡ answer Done (claim_of_pair adds deletes)) result
-ReportsExplanation NoPair result = Makes (λ r. r ≡ answer No claim_of_none) result
+-- the status of a report of a proof that claims so
+abbrev pub status_of_claim : Claimed → Status
+status_of_claim claimed.Pair = Done
+status_of_claim claimed.NoPair = No
+status_of_claim claimed.Spent = Spent
+
+-- the report of the proof that was found for graphs, which is so where its document can be spelled
+pub record IsExplanationReport (g : Graphs) (budget : ℕ) (report : Report) : Type 0 where
+  pub profile : IsInProfile g.shapes
+  pub comparable : AreComparable g.shapes g.present g.offered
+  pub status : IsOneOf (Done ∷ No ∷ Spent ∷ []) report.status
+  pub explained : IsSpellable (setting_of g) → IsExplained (setting_of g) budget report
+
+abbrev pub ReportsExplanation : Graphs → ℕ → Result Report InputError → Type 0
+ReportsExplanation g budget result =
+    MatchResult result (IsExplanationReport g budget) (IsUnfitError g.shapes g.present g.offered)
 
 -- the report of an edited graph, whose text is read back as that graph
 pub record IsEditedReport (made : Graph) (report : Report) : Type 0 where

@@ -1,8 +1,7 @@
 -- The exit status of the program for each status of a call.
 use Rattle.std.specs.Prelude.{ℕ}
 use Rattle.explain_cli.specs.declared.status.Status.{Status}
-use Rattle.explain_cli.specs.declared.status.Status.TheVariants.{Done, No, Usage, Input, Read, Write, Memory}
-use Rattle.explain_cli.specs.declared.status.Status.TheVariants.{TooMany, Spent}
+use Rattle.explain_cli.specs.declared.status.Status.TheVariants.{Done, No, Usage, Input, Read, Write, Memory, Spent}
 
 abbrev pub code_of : Status → ℕ
 code_of Done = 0
@@ -12,5 +11,4 @@ code_of Input = 3
 code_of Read = 4
 code_of Write = 5
 code_of Memory = 6
-code_of TooMany = 7
 code_of Spent = 8

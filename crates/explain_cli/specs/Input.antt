@@ -12,13 +12,12 @@ use Rattle.shapes_profile.specs.declared.refusals.ShapeRefusal.TheVariants as fa
 use Rattle.shapes_profile.specs.Profile.{IsInProfile, IsFault}
 use Rattle.shapes_graph.specs.OrderLiterals.{IsCompared, is_out_of_reach, IsOrderLiteral}
 use Rattle.repair_problem.specs.Setting.{Setting, setting}
-use Rattle.thin_repair.specs.ThinShapes.{IsThinShapes}
 use Rattle.command_words.specs.declared.words.Command.{Command}
 use Rattle.command_words.specs.declared.words.Command.TheVariants.{Validate, Explain, Apply, Check}
 use Rattle.document_input.specs.declared.role.Role.TheVariants.{Shapes, Data, Offered}
 use Rattle.document_input.specs.declared.refusal.ShapesRefusal.{ShapesRefusal}
-use Rattle.document_input.specs.declared.refusal.ShapesRefusal.TheVariants.{NotReadYet, Unsupported, IllFormed}
-use Rattle.document_input.specs.declared.refusal.ShapesRefusal.TheVariants.{Recursive, PathTooDeep, ShapeTooDeep}
+use Rattle.document_input.specs.declared.refusal.ShapesRefusal.TheVariants.{Unsupported, IllFormed, Recursive}
+use Rattle.document_input.specs.declared.refusal.ShapesRefusal.TheVariants.{PathTooDeep, ShapeTooDeep}
 use Rattle.document_input.specs.declared.refusal.ClaimRefusal.{ClaimRefusal}
 use Rattle.document_input.specs.declared.refusal.ClaimRefusal.TheVariants.{NoPair, PairOutside}
 use Rattle.document_input.specs.declared.refusal.InputRefusal.{InputRefusal}
@@ -35,7 +34,7 @@ Contents = List ℕ → Option (List ℕ)
 -- the documents of a command, in the order of its words
 abbrev pub documents_of : Command → List NamedDocument
 documents_of (Validate shapes present) = GraphDocument Shapes shapes ∷ GraphDocument Data present ∷ []
-documents_of (Explain shapes present offered) =
+documents_of (Explain shapes present offered conflicts) =
     GraphDocument Shapes shapes ∷ GraphDocument Data present ∷ GraphDocument Offered offered ∷ []
 documents_of (Apply present document) = GraphDocument Data present ∷ ClaimDocument document ∷ []
 documents_of (Check shapes present offered document) =
@@ -111,17 +110,21 @@ pub record AreHeld (names : Names) (held : Contents) (g : Graphs) : Type 0 where
   pub present : Holds (IsGraph OfData names.present g.present) (held names.present)
   pub offered : Holds (IsGraph OfData names.offered g.offered) (held names.offered)
 
--- the graphs are those of the documents, and the shapes are thin
+-- the graphs are those of the documents, the shapes are in the profile, and the literals can be compared
 pub record IsInput (names : Names) (held : Contents) (g : Graphs) : Type 0 where
   pub documents : AreHeld names held g
-  pub profile : IsThinShapes g.shapes
+  pub profile : IsInProfile g.shapes
+  pub comparable : AreComparable g.shapes g.present g.offered
 
--- all documents are in order, and the shapes are not thin
-pub record RefusesShapes (names : Names) (held : Contents) (refusal : InputRefusal) : Type 0 where
+-- all documents are in order, and their graphs can't be judged
+pub record RefusesGraphs (names : Names) (held : Contents) (refusal : InputRefusal) : Type 0 where
   pub graphs : Graphs
   pub documents : AreHeld names held graphs
-  pub outside : ¬ (IsThinShapes graphs.shapes)
-  pub is : refusal ≡ OfTheShapes NotReadYet
+  pub unfit : IsUnfitInput graphs.shapes graphs.present graphs.offered refusal
+
+-- what is explained, and what the claim of a document speaks of: the offered triples that the data has are no offers
+abbrev pub setting_of : Graphs → Setting
+setting_of g = setting g.shapes g.present (without g.offered g.present)
 
 -- ---- apply
 
@@ -165,10 +168,6 @@ pub record RefusesCheck (names : Names) (claim_name : List ℕ) (held : Contents
   pub documents : AreJudged names claim_name held graphs claim
   pub unfit : IsUnfitInput graphs.shapes graphs.present graphs.offered refusal
 
--- what the claim speaks of: the offered triples that the data has are no offers
-abbrev pub setting_of : Graphs → Setting
-setting_of g = setting g.shapes g.present (without g.offered g.present)
-
 -- ---- the first refusal
 
 -- a document is refused, and those before it are in order, where the shelf tells
@@ -179,7 +178,8 @@ RefusesDocument documents held refusal =
 -- what is refused where all documents of a command are in order
 abbrev pub RefusesBehind : Command → Contents → InputRefusal → Type 0
 RefusesBehind (Validate shapes present) held refusal = RefusesValidation shapes present held refusal
-RefusesBehind (Explain shapes present offered) held refusal = RefusesShapes (names shapes present offered) held refusal
+RefusesBehind (Explain shapes present offered conflicts) held refusal =
+    RefusesGraphs (names shapes present offered) held refusal
 RefusesBehind (Apply present document) held refusal = RefusesClaim present document held refusal
 RefusesBehind (Check shapes present offered document) held refusal =
     RefusesCheck (names shapes present offered) document held refusal

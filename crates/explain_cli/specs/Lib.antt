@@ -1,8 +1,8 @@
 pub mod Answer
 pub mod Causes
-pub mod ClaimText
 pub mod Commands
 pub mod ExitCode
+pub mod Explanations
 pub mod Input
 pub mod Notes
 pub mod Outcome

@@ -21,6 +21,3 @@ read_line role = line (codes "read: " ++ role_text role)
 
 abbrev pub rejected_line : CheckRefusal → List ℕ
 rejected_line reason = line (codes "rejected: " ++ reason_text reason)
-
-abbrev pub too_many_line : ℕ → List ℕ
-too_many_line candidates = line (codes "too many: " ++ decimal candidates)

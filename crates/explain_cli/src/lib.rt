@@ -4,7 +4,6 @@
 
 mod apply;
 mod check;
-mod claim;
 mod explain;
 mod report;
 mod shapes;

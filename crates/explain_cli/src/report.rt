@@ -1,5 +1,5 @@
 ghost use Rattle.std.specs.Prelude.{◌≡◌, IfOk};
-ghost use Rattle.explain_cli.specs.Notes.{usage_line, too_many_line, rejected_line};
+ghost use Rattle.explain_cli.specs.Notes.{usage_line, rejected_line};
 
 use crate::Status;
 use certificates::CheckRefusal;
@@ -50,14 +50,6 @@ impl Report {
     {
         let line = format!(in alloc; "usage: word {position}\n")?;
         Report::note(alloc, Status::Usage, line.as_str())
-    }
-
-    /// So many triples could be deleted or added, which is more than are tried.
-    pub fn too_many(alloc: Global, candidates: u64) -> Result<Report, OutOfMemory>
-        ensures { IfOk result (λ r. r ≡ note Status.TooMany (too_many_line candidates)) }
-    {
-        let line = format!(in alloc; "too many: {candidates}\n")?;
-        Report::note(alloc, Status::TooMany, line.as_str())
     }
 
     /// The document is not accepted, for that reason.

@@ -4,9 +4,9 @@ ghost use Rattle.explain_cli.specs.ExitCode.{code_of};
 /// How a call ended.
 #[derive(Clone, Copy, Debug, PartialEq, Eq)]
 pub enum Status {
-    /// The data conforms, or the answer is a pair, or the data with a pair applied, or a document is accepted.
+    /// The data conforms, or a minimal pair was found, or a pair was applied, or a document is accepted.
     Done,
-    /// The data doesn't conform, or the answer is that no pair explains, or a document is not accepted.
+    /// The data doesn't conform, or no pair explains, or a document is not accepted.
     No,
     /// The words are no command.
     Usage,
@@ -18,9 +18,7 @@ pub enum Status {
     Write,
     /// Memory could not be had.
     Memory,
-    /// More than twelve triples could be deleted or added.
-    TooMany,
-    /// The budget of search steps is used up. No command of today ends so.
+    /// The budget of search steps is used up. Only `explain` ends so.
     Spent,
 }
 
@@ -37,7 +35,6 @@ impl Status {
             Status::Read => 4,
             Status::Write => 5,
             Status::Memory => 6,
-            Status::TooMany => 7,
             Status::Spent => 8,
         }
     }

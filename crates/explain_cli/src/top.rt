@@ -1,4 +1,5 @@
 ghost use Rattle.std.specs.Prelude.{◌≡◌, map, string_bytes, IfOk};
+ghost use Rattle.command_words.specs.Words.{HasBudget};
 ghost use Rattle.document_input.specs.Told.{during, shelf_told};
 ghost use Rattle.explain_cli.specs.Answer.{CommandMeans, Means};
 ghost use Rattle.explain_cli.specs.Causes.{Causes};
@@ -18,6 +19,7 @@ use std::alloc::Global;
 
 /// The answer to a command. A command reads its documents, and then makes its report.
 fn answer_command<H: Shelf>(command: &Command, reader: &mut Reader<H>) -> Result<Report, InputError>
+    requires { HasBudget command.now }
     ensures answer { AnswersCommand command.now
         (during (shelf_told H.held H.faults) reader.old.shelf.now reader.new.shelf.now) result }
     ensures same_shelf { reader.new.shelf.ghost_name ≡ reader.old.shelf.ghost_name }
@@ -30,7 +32,14 @@ fn answer_command<H: Shelf>(command: &Command, reader: &mut Reader<H>) -> Result
             shapes,
             present,
             offered,
-        } => explain_report(reader, shapes.as_str(), present.as_str(), offered.as_str()),
+            conflicts,
+        } => explain_report(
+            reader,
+            shapes.as_str(),
+            present.as_str(),
+            offered.as_str(),
+            *conflicts,
+        ),
         Command::Apply { present, document } => {
             apply_report(reader, present.as_str(), document.as_str())
         }
@@ -55,6 +64,7 @@ fn report_command<H: Shelf>(
     command: &Command,
     shelf: &mut H,
 ) -> Result<Report, OutOfMemory>
+    requires { HasBudget command.now }
     ensures { IfOk result (CommandMeans command.now (during (shelf_told H.held H.faults) shelf.old shelf.new)) }
 {
     let mut reader = Reader::new(alloc, shelf);

@@ -1,7 +1,7 @@
 ghost use Rattle.std.specs.Prelude.{◌≡◌, ◌<◌, ◌≤◌, ◌++◌, ◌∷◌, [], ℕ, length, take, slice_get, IsTrue, Some, None};
 ghost use Rattle.std.specs.Prelude.{true, false};
 ghost use Rattle.std.specs.Prelude.{IfOk, OnOk, OnErr, not};
-ghost use Rattle.clause_store.specs.Clauses.{has, is_clause, is_within, mentions};
+ghost use Rattle.clause_store.specs.Clauses.{are_clauses, has, is_clause, is_within, mentions};
 ghost use Rattle.sat_core.specs.Assignments.{IsAtRest};
 ghost use Rattle.sat_core.specs.Solving.{assigned, is_known, lits_of, HasEmpty, KeepsAllButTrail, IsLog};
 
@@ -104,6 +104,7 @@ impl<S: ClauseStore> Solver<S> {
     pub fn log(&self) -> &Log
         ensures value { result.now ≡ self.now.log }
         ensures chained { IsLog self.now.clauses self.now.log }
+        ensures once { IsTrue (are_clauses self.now.clauses) }
     {
         &self.steps
     }

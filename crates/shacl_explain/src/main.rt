@@ -7,7 +7,7 @@ ghost use Rattle.std.specs.Process.{exit_status};
 ghost use Rattle.command_words.specs.Words.{words_of};
 ghost use Rattle.explain_cli.specs.declared.status.Status.TheVariants.{Usage, Write, Memory, Spent};
 ghost use Rattle.explain_cli.specs.Answer.{IsOneOf};
-ghost use Rattle.explain_cli.specs.Causes.{ComesExactly};
+ghost use Rattle.explain_cli.specs.Causes.{ComesExactly, Searches};
 ghost use Rattle.explain_cli.specs.ExitCode.{code_of};
 
 use explain_cli::{Status, run};
@@ -45,7 +45,7 @@ fn status_of(kind: ErrorKind) -> Status
 /// error for the notes.
 fn run_words(rt: &HostRuntime, words: &[String]) -> Status
     ensures usage { ComesExactly Usage (Write ∷ Memory ∷ []) (IsErr (words_of (map string_bytes words.now))) result }
-    ensures never_spent { result ≢ Spent }
+    ensures searched { result ≡ Spent → Searches (words_of (map string_bytes words.now)) }
 {
     let alloc = rt.alloc();
     let mut shelf = match FileShelf::new(rt, alloc, words) {
@@ -57,16 +57,6 @@ fn run_words(rt: &HostRuntime, words: &[String]) -> Status
     run(alloc, words, &mut shelf, &mut out, &mut notes)
 }
 
-/// The status of the program: that of its words, or of why they can't be collected.
-fn status(rt: &HostRuntime) -> Status
-    ensures { result ≢ Spent }
-{
-    match words_after_name(rt) {
-        Ok(words) => run_words(rt, words.as_slice()),
-        Err(status) => status,
-    }
-}
-
 /// The exit status of the program is the code of its status.
 fn exit_code(status: Status) -> ExitCode
     ensures { exit_status result ≡ code_of status }
@@ -75,5 +65,9 @@ fn exit_code(status: Status) -> ExitCode
 }
 
 fn main(rt: HostRuntime) -> ExitCode {
-    exit_code(status(&rt))
+    let status = match words_after_name(&rt) {
+        Ok(words) => run_words(&rt, words.as_slice()),
+        Err(status) => status,
+    };
+    exit_code(status)
 }

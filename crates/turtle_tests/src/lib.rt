@@ -1,4 +1,4 @@
-//! Tests of the tokens of Turtle.
+//! Tests of the tokens of Turtle and of what they mean.
 #![tactic(auto)]
 
 #[cfg(test)]

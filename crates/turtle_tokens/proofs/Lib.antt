@@ -1,7 +1,6 @@
 pub mod CutLaws
 pub mod FillingLaws
 pub mod Fronts
-pub mod LocalNameLaws
 pub mod Samples
 pub mod TokenTable
 pub mod Unique

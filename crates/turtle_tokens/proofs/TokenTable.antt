@@ -26,18 +26,20 @@ use Rattle.turtle_tokens.specs.declared.states.LabelState.{LabelState}
 use Rattle.turtle_tokens.specs.declared.states.LabelState.TheVariants as label
 use Rattle.turtle_tokens.specs.declared.states.TagState.{TagState}
 use Rattle.turtle_tokens.specs.declared.states.TagState.TheVariants as tag
+use Rattle.turtle_tokens.specs.declared.filling.FillingState.TheVariants.{Between, Comment}
 use Rattle.turtle_tokens.specs.declared.states.BracketState.{BracketState}
 use Rattle.turtle_tokens.specs.declared.states.BracketState.TheVariants as bracket
 use Rattle.turtle_tokens.specs.declared.states.Quote.{Quote}
 use Rattle.turtle_tokens.specs.declared.states.Quote.TheVariants as quote
 use Rattle.turtle_tokens.specs.declared.states.Within.{Within}
 use Rattle.turtle_tokens.specs.declared.states.Within.TheVariants as within
-use Rattle.turtle_tokens.specs.declared.states.QuotedState.{QuotedState}
-use Rattle.turtle_tokens.specs.declared.states.QuotedState.TheVariants as quoted
+use Rattle.turtle_tokens.specs.declared.states.DelimitedState.{DelimitedState}
+use Rattle.turtle_tokens.specs.declared.states.DelimitedState.TheVariants as delimited
 use Rattle.turtle_tokens.specs.declared.states.State.{State}
-use Rattle.turtle_tokens.specs.declared.states.State.TheVariants.{Start, Complete, Number, Name, Label, Tag, Bracket, Caret, Quoted}
+use Rattle.turtle_tokens.specs.declared.states.State.TheVariants.{Start, Complete, Number, Name, Label, Tag, Bracket, Caret, Delimited}
+use Rattle.turtle_tokens.specs.Filling.{filling_step}
 use Rattle.turtle_tokens.specs.Groups.{letter_role, mark_group, ascii_group, group_at}
-use Rattle.turtle_tokens.specs.States.{first_step, number_step, name_step, label_step, tag_step, bracket_step, inside_step, escape_step, quoted_step, step, out, step_char, token_at}
+use Rattle.turtle_tokens.specs.States.{first_step, number_step, name_step, label_step, tag_step, bracket_step, inside_step, escape_step, delimited_step, step, out, step_char, token_at}
 use Rattle.turtle_tokens.specs.Tokens.{hex, iri_part, short_part, long_part, form}
 use Rattle.turtle_tokens.proofs.Samples.{sample, AllFitGroups, fits_hex, fit_repeated, fit_iri_part, fit_short_part, fit_long_part, fit_quote, fit_long_quote, fit_literal, fit_form}
 
@@ -99,7 +101,7 @@ groups =
     ∷ group.Colon ∷ group.Semicolon ∷ group.Less ∷ group.Greater ∷ group.At ∷ group.OpenBracket
     ∷ group.Backslash ∷ group.CloseBracket ∷ group.Caret ∷ group.Underscore ∷ group.Digit ∷ (group.Letter role.Hex)
     ∷ (group.Letter role.HexExponent) ∷ (group.Letter role.HexEscape) ∷ (group.Letter role.Escape) ∷ (group.Letter role.UpperU) ∷ (group.Letter role.LowerU) ∷ (group.Letter role.Plain)
-    ∷ group.Escapable ∷ group.NeverInIri ∷ group.NameStart ∷ group.NameInside ∷ group.Other ∷ []
+    ∷ group.OnlyEscapable ∷ group.TextOnly ∷ group.NameStart ∷ group.NameInside ∷ group.Other ∷ []
 
 abbrev place_of_group : CharGroup → ℕ
 place_of_group group.Blank = 0
@@ -132,8 +134,8 @@ place_of_group (group.Letter role.Escape) = 26
 place_of_group (group.Letter role.UpperU) = 27
 place_of_group (group.Letter role.LowerU) = 28
 place_of_group (group.Letter role.Plain) = 29
-place_of_group group.Escapable = 30
-place_of_group group.NeverInIri = 31
+place_of_group group.OnlyEscapable = 30
+place_of_group group.TextOnly = 31
 place_of_group group.NameStart = 32
 place_of_group group.NameInside = 33
 place_of_group group.Other = 34
@@ -169,8 +171,8 @@ group_found (group.Letter role.Escape) = refl
 group_found (group.Letter role.UpperU) = refl
 group_found (group.Letter role.LowerU) = refl
 group_found (group.Letter role.Plain) = refl
-group_found group.Escapable = refl
-group_found group.NeverInIri = refl
+group_found group.OnlyEscapable = refl
+group_found group.TextOnly = refl
 group_found group.NameStart = refl
 group_found group.NameInside = refl
 group_found group.Other = refl
@@ -219,8 +221,8 @@ tag_path tag.Subtag = codes "@a-a"
 
 abbrev bracket_path : BracketState → List ℕ
 bracket_path bracket.Open = codes "["
-bracket_path bracket.Filling = codes "[ "
-bracket_path bracket.Comment = codes "[#"
+bracket_path (bracket.Filling Between) = codes "[ "
+bracket_path (bracket.Filling Comment) = codes "[#"
 
 abbrev mark_of : Quote → ℕ
 mark_of quote.Double = 0x22
@@ -232,14 +234,14 @@ opening (within.Short q) = mark_of q ∷ codes "a"
 opening (within.Long q) = mark_of q ∷ mark_of q ∷ mark_of q ∷ []
 
 -- of `Hex` it isn't asked
-abbrev quoted_path : QuotedState → List ℕ
-quoted_path (quoted.Open q) = mark_of q ∷ []
-quoted_path (quoted.Empty q) = mark_of q ∷ mark_of q ∷ []
-quoted_path (quoted.Inside w) = opening w
-quoted_path (quoted.OneQuote q) = mark_of q ∷ mark_of q ∷ mark_of q ∷ mark_of q ∷ []
-quoted_path (quoted.TwoQuotes q) = mark_of q ∷ mark_of q ∷ mark_of q ∷ mark_of q ∷ mark_of q ∷ []
-quoted_path (quoted.Backslash w) = opening w ++ 0x5C ∷ []
-quoted_path (quoted.Hex w more) = []
+abbrev delimited_path : DelimitedState → List ℕ
+delimited_path (delimited.Open q) = mark_of q ∷ []
+delimited_path (delimited.Empty q) = mark_of q ∷ mark_of q ∷ []
+delimited_path (delimited.Inside w) = opening w
+delimited_path (delimited.OneQuote q) = mark_of q ∷ mark_of q ∷ mark_of q ∷ mark_of q ∷ []
+delimited_path (delimited.TwoQuotes q) = mark_of q ∷ mark_of q ∷ mark_of q ∷ mark_of q ∷ mark_of q ∷ []
+delimited_path (delimited.Backslash w) = opening w ++ 0x5C ∷ []
+delimited_path (delimited.Hex w more) = []
 
 abbrev path : State → List ℕ
 path Start = []
@@ -250,7 +252,7 @@ path (Label s) = label_path s
 path (Tag s) = tag_path s
 path (Bracket s) = bracket_path s
 path Caret = codes "^"
-path (Quoted s) = quoted_path s
+path (Delimited s) = delimited_path s
 
 abbrev is_kind : Option TokenKind → TokenKind → Bool
 is_kind None k = false
@@ -265,7 +267,7 @@ hex_left w more k = none
 
 abbrev left_of : State → TokenKind → Regular
 left_of (Complete j) k = cond (is_kind (Some j) k) empty none
-left_of (Quoted (quoted.Hex w more)) k = hex_left w more k
+left_of (Delimited (delimited.Hex w more)) k = hex_left w more k
 left_of s k = after (path s) (form k)
 
 -- ---- the table
@@ -283,7 +285,7 @@ abbrev has_kind : State → List Bool
 has_kind s = map (λ k. is_kind (out s) k) kinds
 
 table : (s : State) → (derivatives s ≡ residuals s) × (nothing_left s ≡ has_kind s)
-unfolding step first_step number_step name_step label_step tag_step bracket_step inside_step escape_step quoted_step out is_base is_name_start is_name_char
+unfolding step first_step number_step name_step label_step tag_step filling_step bracket_step inside_step escape_step delimited_step out is_base is_name_start is_name_char
 table Start = (refl, refl)
 table (Complete kind.Dot) = (refl, refl)
 table (Complete kind.Comma) = (refl, refl)
@@ -334,42 +336,42 @@ table (Tag tag.Language) = (refl, refl)
 table (Tag tag.Hyphen) = (refl, refl)
 table (Tag tag.Subtag) = (refl, refl)
 table (Bracket bracket.Open) = (refl, refl)
-table (Bracket bracket.Filling) = (refl, refl)
-table (Bracket bracket.Comment) = (refl, refl)
+table (Bracket (bracket.Filling Between)) = (refl, refl)
+table (Bracket (bracket.Filling Comment)) = (refl, refl)
 table Caret = (refl, refl)
-table (Quoted (quoted.Open quote.Double)) = (refl, refl)
-table (Quoted (quoted.Open quote.Single)) = (refl, refl)
-table (Quoted (quoted.Empty quote.Double)) = (refl, refl)
-table (Quoted (quoted.Empty quote.Single)) = (refl, refl)
-table (Quoted (quoted.Inside within.Iri)) = (refl, refl)
-table (Quoted (quoted.Inside (within.Short quote.Double))) = (refl, refl)
-table (Quoted (quoted.Inside (within.Short quote.Single))) = (refl, refl)
-table (Quoted (quoted.Inside (within.Long quote.Double))) = (refl, refl)
-table (Quoted (quoted.Inside (within.Long quote.Single))) = (refl, refl)
-table (Quoted (quoted.OneQuote quote.Double)) = (refl, refl)
-table (Quoted (quoted.OneQuote quote.Single)) = (refl, refl)
-table (Quoted (quoted.TwoQuotes quote.Double)) = (refl, refl)
-table (Quoted (quoted.TwoQuotes quote.Single)) = (refl, refl)
-table (Quoted (quoted.Backslash within.Iri)) = (refl, refl)
-table (Quoted (quoted.Backslash (within.Short quote.Double))) = (refl, refl)
-table (Quoted (quoted.Backslash (within.Short quote.Single))) = (refl, refl)
-table (Quoted (quoted.Backslash (within.Long quote.Double))) = (refl, refl)
-table (Quoted (quoted.Backslash (within.Long quote.Single))) = (refl, refl)
-table (Quoted (quoted.Hex within.Iri zero)) = (refl, refl)
-table (Quoted (quoted.Hex within.Iri (suc zero))) = (refl, refl)
-table (Quoted (quoted.Hex within.Iri (suc (suc more)))) = (refl, refl)
-table (Quoted (quoted.Hex (within.Short quote.Double) zero)) = (refl, refl)
-table (Quoted (quoted.Hex (within.Short quote.Double) (suc zero))) = (refl, refl)
-table (Quoted (quoted.Hex (within.Short quote.Double) (suc (suc more)))) = (refl, refl)
-table (Quoted (quoted.Hex (within.Short quote.Single) zero)) = (refl, refl)
-table (Quoted (quoted.Hex (within.Short quote.Single) (suc zero))) = (refl, refl)
-table (Quoted (quoted.Hex (within.Short quote.Single) (suc (suc more)))) = (refl, refl)
-table (Quoted (quoted.Hex (within.Long quote.Double) zero)) = (refl, refl)
-table (Quoted (quoted.Hex (within.Long quote.Double) (suc zero))) = (refl, refl)
-table (Quoted (quoted.Hex (within.Long quote.Double) (suc (suc more)))) = (refl, refl)
-table (Quoted (quoted.Hex (within.Long quote.Single) zero)) = (refl, refl)
-table (Quoted (quoted.Hex (within.Long quote.Single) (suc zero))) = (refl, refl)
-table (Quoted (quoted.Hex (within.Long quote.Single) (suc (suc more)))) = (refl, refl)
+table (Delimited (delimited.Open quote.Double)) = (refl, refl)
+table (Delimited (delimited.Open quote.Single)) = (refl, refl)
+table (Delimited (delimited.Empty quote.Double)) = (refl, refl)
+table (Delimited (delimited.Empty quote.Single)) = (refl, refl)
+table (Delimited (delimited.Inside within.Iri)) = (refl, refl)
+table (Delimited (delimited.Inside (within.Short quote.Double))) = (refl, refl)
+table (Delimited (delimited.Inside (within.Short quote.Single))) = (refl, refl)
+table (Delimited (delimited.Inside (within.Long quote.Double))) = (refl, refl)
+table (Delimited (delimited.Inside (within.Long quote.Single))) = (refl, refl)
+table (Delimited (delimited.OneQuote quote.Double)) = (refl, refl)
+table (Delimited (delimited.OneQuote quote.Single)) = (refl, refl)
+table (Delimited (delimited.TwoQuotes quote.Double)) = (refl, refl)
+table (Delimited (delimited.TwoQuotes quote.Single)) = (refl, refl)
+table (Delimited (delimited.Backslash within.Iri)) = (refl, refl)
+table (Delimited (delimited.Backslash (within.Short quote.Double))) = (refl, refl)
+table (Delimited (delimited.Backslash (within.Short quote.Single))) = (refl, refl)
+table (Delimited (delimited.Backslash (within.Long quote.Double))) = (refl, refl)
+table (Delimited (delimited.Backslash (within.Long quote.Single))) = (refl, refl)
+table (Delimited (delimited.Hex within.Iri zero)) = (refl, refl)
+table (Delimited (delimited.Hex within.Iri (suc zero))) = (refl, refl)
+table (Delimited (delimited.Hex within.Iri (suc (suc more)))) = (refl, refl)
+table (Delimited (delimited.Hex (within.Short quote.Double) zero)) = (refl, refl)
+table (Delimited (delimited.Hex (within.Short quote.Double) (suc zero))) = (refl, refl)
+table (Delimited (delimited.Hex (within.Short quote.Double) (suc (suc more)))) = (refl, refl)
+table (Delimited (delimited.Hex (within.Short quote.Single) zero)) = (refl, refl)
+table (Delimited (delimited.Hex (within.Short quote.Single) (suc zero))) = (refl, refl)
+table (Delimited (delimited.Hex (within.Short quote.Single) (suc (suc more)))) = (refl, refl)
+table (Delimited (delimited.Hex (within.Long quote.Double) zero)) = (refl, refl)
+table (Delimited (delimited.Hex (within.Long quote.Double) (suc zero))) = (refl, refl)
+table (Delimited (delimited.Hex (within.Long quote.Double) (suc (suc more)))) = (refl, refl)
+table (Delimited (delimited.Hex (within.Long quote.Single) zero)) = (refl, refl)
+table (Delimited (delimited.Hex (within.Long quote.Single) (suc zero))) = (refl, refl)
+table (Delimited (delimited.Hex (within.Long quote.Single) (suc (suc more)))) = (refl, refl)
 
 -- ---- so the machine reads exactly the tokens
 
@@ -409,7 +411,7 @@ fit_path cs k = fit_after group_at sample cs (form k) (fit_form k)
 
 fit_left : (s : State) (k : TokenKind) → AllFitGroups (left_of s k)
 fit_left (Complete j) k = fit_if (is_kind (Some j) k)
-fit_left (Quoted (quoted.Hex w more)) k = fit_hex_left w more k
+fit_left (Delimited (delimited.Hex w more)) k = fit_hex_left w more k
 fit_left s k = fit_path (path s) k
 
 follows : Follows step_char out left_of

@@ -12,8 +12,8 @@ use Rattle.turtle_tokens.specs.declared.groups.CharGroup.TheVariants.{Blank, Lin
 use Rattle.turtle_tokens.specs.declared.groups.CharGroup.TheVariants.{Percent, OpenParen, CloseParen, Plus, Comma}
 use Rattle.turtle_tokens.specs.declared.groups.CharGroup.TheVariants.{Minus, Dot, Colon, Semicolon, Less, Greater, At}
 use Rattle.turtle_tokens.specs.declared.groups.CharGroup.TheVariants.{OpenBracket, Backslash, CloseBracket, Caret}
-use Rattle.turtle_tokens.specs.declared.groups.CharGroup.TheVariants.{Underscore, Digit, Letter, Escapable, NeverInIri}
-use Rattle.turtle_tokens.specs.declared.groups.CharGroup.TheVariants.{NameStart, NameInside, Other}
+use Rattle.turtle_tokens.specs.declared.groups.CharGroup.TheVariants.{Underscore, Digit, Letter, OnlyEscapable}
+use Rattle.turtle_tokens.specs.declared.groups.CharGroup.TheVariants.{TextOnly, NameStart, NameInside, Other}
 
 unfoldable pub letter_role : ℕ → LetterRole
 letter_role c =
@@ -49,8 +49,8 @@ mark_group c =
     cond (c == 93) CloseBracket (
     cond (c == 94) Caret (
     cond (c == 95) Underscore (
-    cond (is_in (codes "!$&*/=?~") c) Escapable (
-    cond (c == 127) Other NeverInIri)))))))))))))))))))))))
+    cond (is_in (codes "!$&*/=?~") c) OnlyEscapable (
+    cond (c == 127) Other TextOnly)))))))))))))))))))))))
 
 unfoldable pub ascii_group : ℕ → CharGroup
 ascii_group c = cond (is_ascii_alphabetic c) (Letter (letter_role c)) (cond (is_ascii_digit c) Digit (mark_group c))
@@ -106,7 +106,7 @@ is_local_escape Semicolon = true
 is_local_escape Hash = true
 is_local_escape At = true
 is_local_escape Percent = true
-is_local_escape Escapable = true
+is_local_escape OnlyEscapable = true
 is_local_escape g = false
 
 abbrev pub is_escape_letter : LetterRole → Bool
@@ -131,5 +131,5 @@ is_iri_group Less = false
 is_iri_group Greater = false
 is_iri_group Backslash = false
 is_iri_group Caret = false
-is_iri_group NeverInIri = false
+is_iri_group TextOnly = false
 is_iri_group g = true

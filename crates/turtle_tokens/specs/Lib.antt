@@ -4,7 +4,6 @@ pub mod Faults
 pub mod Filling
 pub mod Fronts
 pub mod Groups
-pub mod LocalNames
 pub mod Places
 pub mod Reading
 pub mod States

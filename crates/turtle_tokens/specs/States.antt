@@ -14,25 +14,28 @@ use Rattle.turtle_tokens.specs.declared.states.LabelState.{LabelState}
 use Rattle.turtle_tokens.specs.declared.states.LabelState.TheVariants as label
 use Rattle.turtle_tokens.specs.declared.states.TagState.{TagState}
 use Rattle.turtle_tokens.specs.declared.states.TagState.TheVariants as tag
+use Rattle.turtle_tokens.specs.declared.filling.FillingState.{FillingState}
+use Rattle.turtle_tokens.specs.declared.filling.FillingState.TheVariants.{Between}
 use Rattle.turtle_tokens.specs.declared.states.BracketState.{BracketState}
 use Rattle.turtle_tokens.specs.declared.states.BracketState.TheVariants as bracket
 use Rattle.turtle_tokens.specs.declared.states.Quote.{Quote}
 use Rattle.turtle_tokens.specs.declared.states.Quote.TheVariants as quote
 use Rattle.turtle_tokens.specs.declared.states.Within.{Within}
 use Rattle.turtle_tokens.specs.declared.states.Within.TheVariants as within
-use Rattle.turtle_tokens.specs.declared.states.QuotedState.{QuotedState}
-use Rattle.turtle_tokens.specs.declared.states.QuotedState.TheVariants as quoted
+use Rattle.turtle_tokens.specs.declared.states.DelimitedState.{DelimitedState}
+use Rattle.turtle_tokens.specs.declared.states.DelimitedState.TheVariants as delimited
 use Rattle.turtle_tokens.specs.declared.states.State.{State}
 use Rattle.turtle_tokens.specs.declared.states.State.TheVariants.{Start, Complete, Number, Name, Label, Tag, Bracket}
-use Rattle.turtle_tokens.specs.declared.states.State.TheVariants.{Caret, Quoted}
+use Rattle.turtle_tokens.specs.declared.states.State.TheVariants.{Caret, Delimited}
+use Rattle.turtle_tokens.specs.Filling.{filling_step}
 use Rattle.turtle_tokens.specs.Groups.{group_at, is_hex_digit, begins_name, is_in_name, is_local_escape}
 use Rattle.turtle_tokens.specs.Groups.{is_string_escape, is_iri_group}
 
 -- ---- the state after one more character
 
 unfoldable pub first_step : CharGroup → Option State
-first_step group.DoubleQuote = Some (Quoted (quoted.Open quote.Double))
-first_step group.SingleQuote = Some (Quoted (quoted.Open quote.Single))
+first_step group.DoubleQuote = Some (Delimited (delimited.Open quote.Double))
+first_step group.SingleQuote = Some (Delimited (delimited.Open quote.Single))
 first_step group.OpenParen = Some (Complete kind.OpenParen)
 first_step group.CloseParen = Some (Complete kind.CloseParen)
 first_step group.Plus = Some (Number number.Sign)
@@ -41,7 +44,7 @@ first_step group.Minus = Some (Number number.Sign)
 first_step group.Dot = Some (Number number.Dot)
 first_step group.Colon = Some (Name name.Colon)
 first_step group.Semicolon = Some (Complete kind.Semicolon)
-first_step group.Less = Some (Quoted (quoted.Inside within.Iri))
+first_step group.Less = Some (Delimited (delimited.Inside within.Iri))
 first_step group.At = Some (Tag tag.At)
 first_step group.OpenBracket = Some (Bracket bracket.Open)
 first_step group.CloseBracket = Some (Complete kind.CloseBracket)
@@ -171,21 +174,18 @@ tag_step tag.Language g = after_language g
 tag_step tag.Hyphen g = to_subtag g
 tag_step tag.Subtag g = after_subtag g
 
-abbrev pub in_bracket : CharGroup → Option State
-in_bracket group.Blank = Some (Bracket bracket.Filling)
-in_bracket group.LineEnd = Some (Bracket bracket.Filling)
-in_bracket group.Hash = Some (Bracket bracket.Comment)
-in_bracket group.CloseBracket = Some (Complete kind.Anon)
-in_bracket g = None
+-- behind filling, if it goes on
+abbrev pub or_anon : CharGroup → Option FillingState → Option State
+or_anon g (Some s) = Some (Bracket (bracket.Filling s))
+or_anon group.CloseBracket None = Some (Complete kind.Anon)
+or_anon g None = None
 
-abbrev pub in_bracket_comment : CharGroup → Option State
-in_bracket_comment group.LineEnd = Some (Bracket bracket.Filling)
-in_bracket_comment g = Some (Bracket bracket.Comment)
+abbrev pub in_bracket : FillingState → CharGroup → Option State
+in_bracket s g = or_anon g (filling_step s g)
 
 unfoldable pub bracket_step : BracketState → CharGroup → Option State
-bracket_step bracket.Open g = in_bracket g
-bracket_step bracket.Filling g = in_bracket g
-bracket_step bracket.Comment g = in_bracket_comment g
+bracket_step bracket.Open g = in_bracket Between g
+bracket_step (bracket.Filling s) g = in_bracket s g
 
 abbrev pub caret_step : CharGroup → Option State
 caret_step group.Caret = Some (Complete kind.DoubleCaret)
@@ -199,45 +199,46 @@ closes q g = false
 
 abbrev pub iri_step : CharGroup → Option State
 iri_step group.Greater = Some (Complete kind.IriRef)
-iri_step group.Backslash = Some (Quoted (quoted.Backslash within.Iri))
-iri_step g = cond (is_iri_group g) (Some (Quoted (quoted.Inside within.Iri))) None
+iri_step group.Backslash = Some (Delimited (delimited.Backslash within.Iri))
+iri_step g = cond (is_iri_group g) (Some (Delimited (delimited.Inside within.Iri))) None
 
 abbrev pub short_char : Quote → CharGroup → Option State
 short_char q group.LineEnd = None
-short_char q group.Backslash = Some (Quoted (quoted.Backslash (within.Short q)))
-short_char q g = Some (Quoted (quoted.Inside (within.Short q)))
+short_char q group.Backslash = Some (Delimited (delimited.Backslash (within.Short q)))
+short_char q g = Some (Delimited (delimited.Inside (within.Short q)))
 
 abbrev pub long_char : Quote → CharGroup → State
-long_char q group.Backslash = Quoted (quoted.Backslash (within.Long q))
-long_char q g = Quoted (quoted.Inside (within.Long q))
+long_char q group.Backslash = Delimited (delimited.Backslash (within.Long q))
+long_char q g = Delimited (delimited.Inside (within.Long q))
 
 unfoldable pub inside_step : Within → CharGroup → Option State
 inside_step within.Iri g = iri_step g
 inside_step (within.Short q) g = cond (closes q g) (Some (Complete kind.String)) (short_char q g)
-inside_step (within.Long q) g = cond (closes q g) (Some (Quoted (quoted.OneQuote q))) (Some (long_char q g))
+inside_step (within.Long q) g = cond (closes q g) (Some (Delimited (delimited.OneQuote q))) (Some (long_char q g))
 
 -- ECHAR stands in strings alone
 abbrev pub is_string : Within → Bool
 is_string within.Iri = false
 is_string w = true
 
-unfoldable pub escape_step : Within → CharGroup → Option QuotedState
-escape_step w (group.Letter role.LowerU) = Some (quoted.Hex w 3)
-escape_step w (group.Letter role.UpperU) = Some (quoted.Hex w 7)
-escape_step w g = cond (is_string w && is_string_escape g) (Some (quoted.Inside w)) None
+unfoldable pub escape_step : Within → CharGroup → Option DelimitedState
+escape_step w (group.Letter role.LowerU) = Some (delimited.Hex w 3)
+escape_step w (group.Letter role.UpperU) = Some (delimited.Hex w 7)
+escape_step w g = cond (is_string w && is_string_escape g) (Some (delimited.Inside w)) None
 
-abbrev pub after_hex : Within → ℕ → QuotedState
-after_hex w zero = quoted.Inside w
-after_hex w (suc n) = quoted.Hex w n
+abbrev pub after_hex : Within → ℕ → DelimitedState
+after_hex w zero = delimited.Inside w
+after_hex w (suc n) = delimited.Hex w n
 
-unfoldable pub quoted_step : QuotedState → CharGroup → Option State
-quoted_step (quoted.Open q) g = cond (closes q g) (Some (Quoted (quoted.Empty q))) (short_char q g)
-quoted_step (quoted.Empty q) g = cond (closes q g) (Some (Quoted (quoted.Inside (within.Long q)))) None
-quoted_step (quoted.Inside w) g = inside_step w g
-quoted_step (quoted.OneQuote q) g = cond (closes q g) (Some (Quoted (quoted.TwoQuotes q))) (Some (long_char q g))
-quoted_step (quoted.TwoQuotes q) g = cond (closes q g) (Some (Complete kind.String)) (Some (long_char q g))
-quoted_step (quoted.Backslash w) g = option_map Quoted (escape_step w g)
-quoted_step (quoted.Hex w more) g = cond (is_hex_digit g) (Some (Quoted (after_hex w more))) None
+unfoldable pub delimited_step : DelimitedState → CharGroup → Option State
+delimited_step (delimited.Open q) g = cond (closes q g) (Some (Delimited (delimited.Empty q))) (short_char q g)
+delimited_step (delimited.Empty q) g = cond (closes q g) (Some (Delimited (delimited.Inside (within.Long q)))) None
+delimited_step (delimited.Inside w) g = inside_step w g
+delimited_step (delimited.OneQuote q) g =
+    cond (closes q g) (Some (Delimited (delimited.TwoQuotes q))) (Some (long_char q g))
+delimited_step (delimited.TwoQuotes q) g = cond (closes q g) (Some (Complete kind.String)) (Some (long_char q g))
+delimited_step (delimited.Backslash w) g = option_map Delimited (escape_step w g)
+delimited_step (delimited.Hex w more) g = cond (is_hex_digit g) (Some (Delimited (after_hex w more))) None
 
 unfoldable pub step : State → CharGroup → Option State
 step Start g = first_step g
@@ -248,7 +249,7 @@ step (Label s) g = option_map Label (label_step s g)
 step (Tag s) g = option_map Tag (tag_step s g)
 step (Bracket s) g = bracket_step s g
 step Caret g = caret_step g
-step (Quoted s) g = quoted_step s g
+step (Delimited s) g = delimited_step s g
 
 -- ---- which token was read, where it may end here
 
@@ -278,9 +279,9 @@ abbrev pub bracket_out : BracketState → Option TokenKind
 bracket_out bracket.Open = Some kind.OpenBracket
 bracket_out s = None
 
-abbrev pub quoted_out : QuotedState → Option TokenKind
-quoted_out (quoted.Empty q) = Some kind.String
-quoted_out s = None
+abbrev pub delimited_out : DelimitedState → Option TokenKind
+delimited_out (delimited.Empty q) = Some kind.String
+delimited_out s = None
 
 unfoldable pub out : State → Option TokenKind
 out Start = None
@@ -291,7 +292,7 @@ out (Label s) = label_out s
 out (Tag s) = tag_out s
 out (Bracket s) = bracket_out s
 out Caret = None
-out (Quoted s) = quoted_out s
+out (Delimited s) = delimited_out s
 
 -- ---- the machine
 

@@ -15,8 +15,9 @@ pub enum FillingState {
     Comment,
 }
 
+/// The state after one more character, or `None` where it is no part of filling.
 #[tactic(auto, unfolding(crate::specs::Filling::filling_step))]
-fn filling_step(state: FillingState, group: CharGroup) -> Option<FillingState>
+pub fn filling_step(state: FillingState, group: CharGroup) -> Option<FillingState>
     ensures { filling_step state group ≡ result }
 {
     match state {

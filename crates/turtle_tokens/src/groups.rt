@@ -75,9 +75,9 @@ pub enum CharGroup {
     /// An ASCII letter.
     Letter(LetterRole),
     /// `! $ & * / = ? ~`, which begin no token and which a local name escapes.
-    Escapable,
+    OnlyEscapable,
     /// `` ` ``, `{`, `|`, `}` and the control characters but tab, LF, CR and DEL: in strings and comments alone.
-    NeverInIri,
+    TextOnly,
     /// PN_CHARS_BASE beyond ASCII.
     NameStart,
     /// PN_CHARS beyond ASCII with which no name begins.
@@ -129,9 +129,9 @@ fn mark_group(c: char) -> CharGroup
         ']' => CharGroup::CloseBracket,
         '^' => CharGroup::Caret,
         '_' => CharGroup::Underscore,
-        '!' | '$' | '&' | '*' | '/' | '=' | '?' | '~' => CharGroup::Escapable,
+        '!' | '$' | '&' | '*' | '/' | '=' | '?' | '~' => CharGroup::OnlyEscapable,
         '\x7f' => CharGroup::Other,
-        _ => CharGroup::NeverInIri,
+        _ => CharGroup::TextOnly,
     }
 }
 
@@ -226,7 +226,7 @@ impl CharGroup {
                 | CharGroup::Hash
                 | CharGroup::At
                 | CharGroup::Percent
-                | CharGroup::Escapable
+                | CharGroup::OnlyEscapable
         )
     }
 
@@ -256,7 +256,7 @@ impl CharGroup {
                 | CharGroup::Greater
                 | CharGroup::Backslash
                 | CharGroup::Caret
-                | CharGroup::NeverInIri
+                | CharGroup::TextOnly
         )
     }
 }

@@ -27,7 +27,8 @@ pub struct StatementTokens<'t> {
     pub rest: &'t str,
 }
 
-fn token_at<'t>(text: &'t str, at: u64) -> Option<(Token<'t>, &'t str)>
+/// The token at the front of the text, before which `at` bytes of the document stand, and the rest behind it.
+fn placed_token_at<'t>(text: &'t str, at: u64) -> Option<(Token<'t>, &'t str)>
     ensures { IsTokenAt at text.now result }
 {
     match next_token(text) {
@@ -100,7 +101,7 @@ pub fn cut_statement<'t>(
     let mut next_at = at;
     let mut ended = false;
     'tokens: while !ended && !has_all_arguments(tokens.as_slice()) {
-        match token_at(rest, next_at) {
+        match placed_token_at(rest, next_at) {
             Some((token, after)) => {
                 let next = skip_filling(after, at_end);
                 next_at += (rest.len() - next.len()) as u64;

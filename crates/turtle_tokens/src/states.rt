@@ -2,6 +2,7 @@ ghost use Rattle.std.specs.Prelude.{◌≡◌};
 ghost use Rattle.turtle_tokens.specs.States.{number_out, name_out, out};
 
 use crate::TokenKind;
+use crate::filling::FillingState;
 
 /// What has been read of a number, or of a `.` that may begin one.
 #[derive(Clone, Copy)]
@@ -81,10 +82,8 @@ pub enum TagState {
 pub enum BracketState {
     /// `[`
     Open,
-    /// White space or whole comments behind it.
-    Filling,
-    /// A comment whose line has not ended.
-    Comment,
+    /// And filling behind it, or the beginning of it.
+    Filling(FillingState),
 }
 
 /// A quotation mark.
@@ -109,7 +108,7 @@ pub enum Within {
 
 /// What has been read of an IRIREF or a string.
 #[derive(Clone, Copy)]
-pub enum QuotedState {
+pub enum DelimitedState {
     /// A quotation mark: of a short string, or the first of a long one.
     Open(Quote),
     /// Two of them: an empty string, or the beginning of a long one.
@@ -146,7 +145,7 @@ pub enum State {
     /// `^`: another has to follow.
     Caret,
     /// An IRIREF or a string.
-    Quoted(QuotedState),
+    Delimited(DelimitedState),
 }
 
 fn kind_of_number(state: NumberState) -> Option<TokenKind>
@@ -184,7 +183,7 @@ pub fn kind_of_state(state: State) -> Option<TokenKind>
         State::Label(LabelState::Label) => Some(TokenKind::BlankNodeLabel),
         State::Tag(TagState::Language | TagState::Subtag) => Some(TokenKind::LangTag),
         State::Bracket(BracketState::Open) => Some(TokenKind::OpenBracket),
-        State::Quoted(QuotedState::Empty(_)) => Some(TokenKind::String),
+        State::Delimited(DelimitedState::Empty(_)) => Some(TokenKind::String),
         _ => None,
     }
 }

@@ -2,13 +2,14 @@ ghost use Rattle.std.specs.Prelude.{◌≡◌};
 ghost use Rattle.turtle_tokens.specs.States.{first_step, number_step, to_prefix, after_prefix, to_local, after_local};
 ghost use Rattle.turtle_tokens.specs.States.{name_step, label_step, tag_step, in_bracket, bracket_step, closes};
 ghost use Rattle.turtle_tokens.specs.States.{iri_step, short_char, long_char, inside_step, escape_step, after_hex};
-ghost use Rattle.turtle_tokens.specs.States.{quoted_step, step, step_char};
+ghost use Rattle.turtle_tokens.specs.States.{delimited_step, step, step_char};
 
 use crate::TokenKind;
+use crate::filling::{FillingState, filling_step};
 use crate::groups::{CharGroup, LetterRole, group_of};
-use crate::states::State::{self, Complete, Quoted};
 use crate::states::{
-    BracketState, LabelState, NameState, NumberState, Quote, QuotedState, TagState, Within,
+    BracketState, DelimitedState, LabelState, NameState, NumberState, Quote, State, TagState,
+    Within,
 };
 
 #[tactic(auto, unfolding(crate::specs::States::first_step))]
@@ -16,9 +17,9 @@ fn first_step(group: CharGroup) -> Option<State>
     ensures { result ≡ first_step group }
 {
     match group {
-        CharGroup::DoubleQuote => Some(Quoted(QuotedState::Open(Quote::Double))),
-        CharGroup::SingleQuote => Some(Quoted(QuotedState::Open(Quote::Single))),
-        CharGroup::Less => Some(Quoted(QuotedState::Inside(Within::Iri))),
+        CharGroup::DoubleQuote => Some(State::Delimited(DelimitedState::Open(Quote::Double))),
+        CharGroup::SingleQuote => Some(State::Delimited(DelimitedState::Open(Quote::Single))),
+        CharGroup::Less => Some(State::Delimited(DelimitedState::Inside(Within::Iri))),
         CharGroup::Plus | CharGroup::Minus => Some(State::Number(NumberState::Sign)),
         CharGroup::Dot => Some(State::Number(NumberState::Dot)),
         CharGroup::Digit => Some(State::Number(NumberState::Integer)),
@@ -28,11 +29,11 @@ fn first_step(group: CharGroup) -> Option<State>
         CharGroup::Underscore => Some(State::Label(LabelState::Underscore)),
         CharGroup::At => Some(State::Tag(TagState::At)),
         CharGroup::OpenBracket => Some(State::Bracket(BracketState::Open)),
-        CharGroup::CloseBracket => Some(Complete(TokenKind::CloseBracket)),
-        CharGroup::OpenParen => Some(Complete(TokenKind::OpenParen)),
-        CharGroup::CloseParen => Some(Complete(TokenKind::CloseParen)),
-        CharGroup::Comma => Some(Complete(TokenKind::Comma)),
-        CharGroup::Semicolon => Some(Complete(TokenKind::Semicolon)),
+        CharGroup::CloseBracket => Some(State::Complete(TokenKind::CloseBracket)),
+        CharGroup::OpenParen => Some(State::Complete(TokenKind::OpenParen)),
+        CharGroup::CloseParen => Some(State::Complete(TokenKind::CloseParen)),
+        CharGroup::Comma => Some(State::Complete(TokenKind::Comma)),
+        CharGroup::Semicolon => Some(State::Complete(TokenKind::Semicolon)),
         CharGroup::Caret => Some(State::Caret),
         _ => None,
     }
@@ -191,14 +192,16 @@ fn tag_step(state: TagState, group: CharGroup) -> Option<TagState>
     }
 }
 
-fn in_bracket(group: CharGroup) -> Option<State>
-    ensures { result ≡ in_bracket group }
+/// Behind a `[` and what has been read of filling: more of it, or the `]` of an ANON.
+fn in_bracket(filling: FillingState, group: CharGroup) -> Option<State>
+    ensures { result ≡ in_bracket filling group }
 {
-    match group {
-        CharGroup::Blank | CharGroup::LineEnd => Some(State::Bracket(BracketState::Filling)),
-        CharGroup::Hash => Some(State::Bracket(BracketState::Comment)),
-        CharGroup::CloseBracket => Some(Complete(TokenKind::Anon)),
-        _ => None,
+    match filling_step(filling, group) {
+        Some(further) => Some(State::Bracket(BracketState::Filling(further))),
+        None => match group {
+            CharGroup::CloseBracket => Some(State::Complete(TokenKind::Anon)),
+            _ => None,
+        },
     }
 }
 
@@ -208,11 +211,8 @@ fn bracket_step(state: BracketState, group: CharGroup) -> Option<State>
     ensures { result ≡ bracket_step state group }
 {
     match state {
-        BracketState::Open | BracketState::Filling => in_bracket(group),
-        BracketState::Comment => match group {
-            CharGroup::LineEnd => Some(State::Bracket(BracketState::Filling)),
-            _ => Some(State::Bracket(BracketState::Comment)),
-        },
+        BracketState::Open => in_bracket(FillingState::Between, group),
+        BracketState::Filling(filling) => in_bracket(filling, group),
     }
 }
 
@@ -230,9 +230,9 @@ fn iri_step(group: CharGroup) -> Option<State>
     ensures { result ≡ iri_step group }
 {
     match group {
-        CharGroup::Greater => Some(Complete(TokenKind::IriRef)),
-        CharGroup::Backslash => Some(Quoted(QuotedState::Backslash(Within::Iri))),
-        _ if group.is_in_iri() => Some(Quoted(QuotedState::Inside(Within::Iri))),
+        CharGroup::Greater => Some(State::Complete(TokenKind::IriRef)),
+        CharGroup::Backslash => Some(State::Delimited(DelimitedState::Backslash(Within::Iri))),
+        _ if group.is_in_iri() => Some(State::Delimited(DelimitedState::Inside(Within::Iri))),
         _ => None,
     }
 }
@@ -243,8 +243,10 @@ fn short_char(quote: Quote, group: CharGroup) -> Option<State>
 {
     match group {
         CharGroup::LineEnd => None,
-        CharGroup::Backslash => Some(Quoted(QuotedState::Backslash(Within::Short(quote)))),
-        _ => Some(Quoted(QuotedState::Inside(Within::Short(quote)))),
+        CharGroup::Backslash => Some(State::Delimited(DelimitedState::Backslash(Within::Short(
+            quote,
+        )))),
+        _ => Some(State::Delimited(DelimitedState::Inside(Within::Short(quote)))),
     }
 }
 
@@ -253,8 +255,8 @@ fn long_char(quote: Quote, group: CharGroup) -> State
     ensures { result ≡ long_char quote group }
 {
     match group {
-        CharGroup::Backslash => Quoted(QuotedState::Backslash(Within::Long(quote))),
-        _ => Quoted(QuotedState::Inside(Within::Long(quote))),
+        CharGroup::Backslash => State::Delimited(DelimitedState::Backslash(Within::Long(quote))),
+        _ => State::Delimited(DelimitedState::Inside(Within::Long(quote))),
     }
 }
 
@@ -264,36 +266,38 @@ fn inside_step(within: Within, group: CharGroup) -> Option<State>
 {
     match within {
         Within::Iri => iri_step(group),
-        Within::Short(quote) if closes(quote, group) => Some(Complete(TokenKind::String)),
+        Within::Short(quote) if closes(quote, group) => Some(State::Complete(TokenKind::String)),
         Within::Short(quote) => short_char(quote, group),
-        Within::Long(quote) if closes(quote, group) => Some(Quoted(QuotedState::OneQuote(quote))),
+        Within::Long(quote) if closes(quote, group) => Some(State::Delimited(
+            DelimitedState::OneQuote(quote),
+        )),
         Within::Long(quote) => Some(long_char(quote, group)),
     }
 }
 
 #[tactic(auto, unfolding(crate::specs::States::escape_step))]
-fn escape_step(within: Within, group: CharGroup) -> Option<QuotedState>
+fn escape_step(within: Within, group: CharGroup) -> Option<DelimitedState>
     ensures { result ≡ escape_step within group }
 {
     match group {
-        CharGroup::Letter(LetterRole::LowerU) => Some(QuotedState::Hex { within, more: 3 }),
-        CharGroup::Letter(LetterRole::UpperU) => Some(QuotedState::Hex { within, more: 7 }),
+        CharGroup::Letter(LetterRole::LowerU) => Some(DelimitedState::Hex { within, more: 3 }),
+        CharGroup::Letter(LetterRole::UpperU) => Some(DelimitedState::Hex { within, more: 7 }),
         _ if group.is_string_escape() => match within {
             Within::Iri => None,
-            _ => Some(QuotedState::Inside(within)),
+            _ => Some(DelimitedState::Inside(within)),
         },
         _ => None,
     }
 }
 
 /// After a hexadecimal digit behind which so many more have to follow.
-fn after_hex(within: Within, more: u8) -> QuotedState
+fn after_hex(within: Within, more: u8) -> DelimitedState
     ensures { result ≡ after_hex within more }
 {
     if more == 0 {
-        QuotedState::Inside(within)
+        DelimitedState::Inside(within)
     } else {
-        QuotedState::Hex {
+        DelimitedState::Hex {
             within,
             more: more - 1,
         }
@@ -301,29 +305,33 @@ fn after_hex(within: Within, more: u8) -> QuotedState
 }
 
 /// As through `<a>`, `"a\n"` and `'''it's'''`.
-#[tactic(auto, unfolding(crate::specs::States::quoted_step))]
-fn quoted_step(state: QuotedState, group: CharGroup) -> Option<State>
-    ensures { result ≡ quoted_step state group }
+#[tactic(auto, unfolding(crate::specs::States::delimited_step))]
+fn delimited_step(state: DelimitedState, group: CharGroup) -> Option<State>
+    ensures { result ≡ delimited_step state group }
 {
     match state {
-        QuotedState::Open(quote) if closes(quote, group) => Some(Quoted(QuotedState::Empty(quote))),
-        QuotedState::Open(quote) => short_char(quote, group),
-        QuotedState::Empty(quote) if closes(quote, group) => {
-            Some(Quoted(QuotedState::Inside(Within::Long(quote))))
+        DelimitedState::Open(quote) if closes(quote, group) => Some(State::Delimited(
+            DelimitedState::Empty(quote),
+        )),
+        DelimitedState::Open(quote) => short_char(quote, group),
+        DelimitedState::Empty(quote) if closes(quote, group) => {
+            Some(State::Delimited(DelimitedState::Inside(Within::Long(quote))))
         }
-        QuotedState::Empty(_) => None,
-        QuotedState::Inside(within) => inside_step(within, group),
-        QuotedState::OneQuote(quote) if closes(quote, group) => {
-            Some(Quoted(QuotedState::TwoQuotes(quote)))
+        DelimitedState::Empty(_) => None,
+        DelimitedState::Inside(within) => inside_step(within, group),
+        DelimitedState::OneQuote(quote) if closes(quote, group) => {
+            Some(State::Delimited(DelimitedState::TwoQuotes(quote)))
         }
-        QuotedState::OneQuote(quote) => Some(long_char(quote, group)),
-        QuotedState::TwoQuotes(quote) if closes(quote, group) => Some(Complete(TokenKind::String)),
-        QuotedState::TwoQuotes(quote) => Some(long_char(quote, group)),
-        QuotedState::Backslash(within) => Some(Quoted(escape_step(within, group)?)),
-        QuotedState::Hex { within, more } if group.is_hex() => {
-            Some(Quoted(after_hex(within, more)))
+        DelimitedState::OneQuote(quote) => Some(long_char(quote, group)),
+        DelimitedState::TwoQuotes(quote) if closes(quote, group) => Some(State::Complete(
+            TokenKind::String,
+        )),
+        DelimitedState::TwoQuotes(quote) => Some(long_char(quote, group)),
+        DelimitedState::Backslash(within) => Some(State::Delimited(escape_step(within, group)?)),
+        DelimitedState::Hex { within, more } if group.is_hex() => {
+            Some(State::Delimited(after_hex(within, more)))
         }
-        QuotedState::Hex { .. } => None,
+        DelimitedState::Hex { .. } => None,
     }
 }
 
@@ -340,10 +348,10 @@ fn step(state: State, group: CharGroup) -> Option<State>
         State::Tag(tag) => Some(State::Tag(tag_step(tag, group)?)),
         State::Bracket(bracket) => bracket_step(bracket, group),
         State::Caret => match group {
-            CharGroup::Caret => Some(Complete(TokenKind::DoubleCaret)),
+            CharGroup::Caret => Some(State::Complete(TokenKind::DoubleCaret)),
             _ => None,
         },
-        State::Quoted(quoted) => quoted_step(quoted, group),
+        State::Delimited(delimited) => delimited_step(delimited, group),
     }
 }
 

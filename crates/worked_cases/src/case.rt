@@ -31,12 +31,41 @@ impl SinkPlan {
     }
 }
 
-/// One call of the program, over documents and sinks of its own.
+/// What is shown of a document that a call wrote.
+#[derive(Clone, Copy, Debug, PartialEq, Eq)]
+pub enum Shown {
+    Nothing,
+    /// What is claimed, and the triples of a claimed pair.
+    Claim,
+    /// What is claimed, and how many triples a claimed pair has.
+    Sizes,
+    /// What is claimed, and how many steps its proof has.
+    Steps,
+}
+
+/// Where the later calls of a case find what a call wrote to `out`.
+#[derive(Drop)]
+pub struct Kept {
+    pub name: String,
+    pub shown: Shown,
+}
+
+/// A later call of a case, over the same documents and those that were kept.
+#[derive(Drop)]
+pub struct Call {
+    pub words: Vec<String>,
+    pub kept: Option<Kept>,
+}
+
+/// A call of the program and, one after another, later ones, over documents of its own. Each call has sinks of its own.
 #[derive(Drop)]
 pub struct Case {
     pub name: String,
-    /// Its words, where it doesn't take those of the text.
+    /// The words of its first call, where it doesn't take those of the text.
     pub words: Option<Vec<String>>,
+    /// What is kept of its first call.
+    pub kept: Option<Kept>,
+    pub later: Vec<Call>,
     pub documents: Vec<Document>,
     pub out: SinkPlan,
     pub notes: SinkPlan,
@@ -48,13 +77,23 @@ impl Case {
         Ok(Case {
             name: String::from_str(alloc, name)?,
             words: None,
+            kept: None,
+            later: Vec::new(alloc),
             documents: Vec::new(alloc),
             out: SinkPlan::new(alloc),
             notes: SinkPlan::new(alloc),
         })
     }
 
-    /// Appends a word to those of the case.
+    /// Keeps what the last call writes.
+    pub fn keep(&mut self, kept: Kept) {
+        match self.later.last_mut() {
+            Some(call) => call.kept = Some(kept),
+            None => self.kept = Some(kept),
+        }
+    }
+
+    /// Appends a word to those of the first call.
     pub fn push_word(&mut self, alloc: Global, word: &str) -> Result<(), AllocError> {
         let word = String::from_str(alloc, word)?;
         let mut words = self.words.take().unwrap_or(Vec::new(alloc));

@@ -6,6 +6,10 @@
 //!     === ten bytes fit               a case, by its name
 //!     words explain                   words of its own, in the place of those of the text
 //!     word a name with spaces         one word more, as it stands
+//!     keep e.txt                      what the call wrote to `out` is held under that name, and not shown
+//!     keep e.txt claim                of such a document the claim and its triples are shown; for `sizes` how many
+//!                                     triples it adds and deletes, for `steps` how many steps its proof has
+//!     then check s.nt d.nt o.nt e.txt another call, which may be followed by `keep` too
 //!     out 10                          the sink `out` takes ten bytes; so for `notes`
 //!     out fails 1                     the first write to `out` fails
 //!     --- d.nt                        a document of the case, in the place of a shared one
@@ -19,7 +23,7 @@
 
 ghost use Rattle.std.specs.Prelude.{◌<◌, IfSome};
 
-use crate::case::{Case, Cases, Document, SinkPlan};
+use crate::case::{Call, Case, Cases, Document, Kept, Shown, SinkPlan};
 use crate::refusal::CaseError;
 use numerals::parse_numeral;
 use std::alloc::Global;
@@ -146,12 +150,34 @@ impl Draft {
             ("words", None) => self.done.words = words_of(self.alloc, rest)?,
             ("words", Some(case)) => case.words = Some(words_of(self.alloc, rest)?),
             ("word", Some(case)) => case.push_word(self.alloc, rest)?,
+            ("keep", Some(case)) => return keep(self.alloc, case, rest),
+            ("then", Some(case)) => case.later.push(Call {
+                words: words_of(self.alloc, rest)?,
+                kept: None,
+            })?,
             ("out", Some(case)) => return plan(&mut case.out, rest),
             ("notes", Some(case)) => return plan(&mut case.notes, rest),
             _ => return Ok(false),
         }
         Ok(true)
     }
+}
+
+/// Takes the name under which what the last call writes is held, and what is shown of it.
+fn keep(alloc: Global, case: &mut Case, text: &str) -> Result<bool, CaseError> {
+    let (name, said) = split_word(text);
+    let shown = match said {
+        "" => Shown::Nothing,
+        "claim" => Shown::Claim,
+        "sizes" => Shown::Sizes,
+        "steps" => Shown::Steps,
+        _ => return Ok(false),
+    };
+    case.keep(Kept {
+        name: String::from_str(alloc, name)?,
+        shown,
+    });
+    Ok(!name.is_empty())
 }
 
 /// The text before its first space, and what stands behind that space.

@@ -1,6 +1,6 @@
 use Rattle.std.proofs.Common.{◌↔◌, IsTrue, subst}
 use Rattle.proof_documents.specs.Document.{Document}
-use Rattle.certificates.specs.Numbers.{IsEnded}
+use Rattle.certificates.specs.Checker.{IsEnded}
 use Rattle.certificates.proofs.Answered.{candidates_moved, claim_checked}
 use Rattle.certificates.proofs.check.check_claim.Goals as goal
 

@@ -1,5 +1,5 @@
 use Rattle.std.proofs.Common.{refl, ◌∙◌, arith}
-use Rattle.certificates.specs.Numbers.{lines_of}
+use Rattle.atom_numbers.specs.Numbers.{lines_of}
 use Rattle.certificates.proofs.Advanced.{leads_none, leads_next, leads_whole, refused_line}
 use Rattle.certificates.proofs.check.check_lines.Goals as goal
 

@@ -1,6 +1,7 @@
 use Rattle.std.proofs.Common.{◌≡◌, ◌+◌, take}
 use Rattle.premise_rules.specs.Documents.{no_lines, Leads, AnyStep}
-use Rattle.certificates.specs.Numbers.{lines_of, IsReady}
+use Rattle.atom_numbers.specs.Numbers.{lines_of}
+use Rattle.certificates.specs.Checker.{IsReady}
 use Rattle.certificates.proofs.check.check_lines.Given as goal
 
 abbrev pub invariant-lines : goal.invariant-lines

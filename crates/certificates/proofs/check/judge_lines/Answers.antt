@@ -1,6 +1,6 @@
 use Rattle.std.proofs.Common.{ap, ◌∙◌}
 use Rattle.proof_documents.specs.Document.{Document}
-use Rattle.certificates.specs.Numbers.{lines_of}
+use Rattle.atom_numbers.specs.Numbers.{lines_of}
 use Rattle.certificates.proofs.Advanced.{lines_verdict, lines_rejected}
 use Rattle.certificates.proofs.check.judge_lines.Goals as goal
 

@@ -1,5 +1,6 @@
 use Rattle.std.proofs.Common.{sym, subst}
-use Rattle.certificates.specs.Numbers.{lines_of, IsReady}
+use Rattle.atom_numbers.specs.Numbers.{lines_of}
+use Rattle.certificates.specs.Checker.{IsReady}
 use Rattle.certificates.proofs.Kept.{step_short, room_for, step_leads, step_ready}
 use Rattle.certificates.proofs.Answered.{step_refused_line}
 use Rattle.certificates.proofs.checker.Checker.check_ids.Goals as goal

@@ -1,7 +1,8 @@
 use Rattle.certificates.proofs.Answered.{rule_checked, rule_moved, kept_ok, ready_moved}
 use Rattle.std.proofs.Common.{sym, ap, ◌∙◌, subst}
 use Rattle.premise_rules.specs.declared.clause.Clause.TheVariants.{Literals}
-use Rattle.certificates.specs.Numbers.{lines_of, AreOnce, IsReady}
+use Rattle.atom_numbers.specs.Numbers.{lines_of, AreOnce}
+use Rattle.certificates.specs.Checker.{IsReady}
 use Rattle.certificates.proofs.checker.Checker.check_rule.Goals as goal
 
 pub returns-in-Ok-clause-checked : goal.returns-in-Ok-clause-checked

@@ -1,7 +1,8 @@
 use Rattle.std.proofs.Common.{◌≤◌, IsTrue, length, sym, ap, ◌∙◌, subst, arith}
 use Rattle.clause_store.specs.Clauses.{is_clause, is_within}
-use Rattle.certificates.specs.Numbers.{clause_of, AreOnce}
-use Rattle.certificates.proofs.Kept.{once_clause, lines_pushed, ready_pushed}
+use Rattle.atom_numbers.specs.Numbers.{clause_of, AreOnce}
+use Rattle.atom_numbers.proofs.Clauses.{once_clause, lines_pushed}
+use Rattle.certificates.proofs.Kept.{ready_pushed}
 use Rattle.certificates.proofs.checker.Checker.push_premise.Goals as goal
 
 pub number_clause-requires : goal.number_clause-requires

@@ -1,7 +1,7 @@
 use Rattle.std.proofs.Common.{◌≡◌, List, length, take, ap, ◌∙◌}
 use Rattle.repair_problem.specs.declared.atom.Atom.{Atom}
-use Rattle.clause_ground.specs.Numbers.{joined}
-use Rattle.clause_ground.proofs.NumberLaws.{grown_take, unchanged_grown}
+use Rattle.atom_numbers.specs.Numbers.{joined}
+use Rattle.atom_numbers.proofs.NumberLaws.{grown_take, unchanged_grown}
 use Rattle.clause_ground.proofs.ground.Ground.lits_of.Goals as goal
 
 pub returns-in-Ok-clause-joined : goal.returns-in-Ok-clause-joined

@@ -1,5 +1,5 @@
 use Rattle.std.proofs.Common.{◌≡◌, Some, ◌∙◌, sym}
-use Rattle.clause_ground.proofs.NumberLaws.{number_is}
+use Rattle.atom_numbers.proofs.NumberLaws.{number_is}
 use Rattle.clause_ground.proofs.ground.Ground.var_of.Goals as goal
 
 pub returns : goal.returns

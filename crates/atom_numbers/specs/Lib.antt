@@ -1,0 +1,2 @@
+-- Numbers of atoms, and clauses in these numbers.
+pub mod Numbers

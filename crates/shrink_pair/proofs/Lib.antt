@@ -1,0 +1,10 @@
+pub mod Listed
+pub mod FreshSteps
+pub mod LeadsLaws
+pub mod Premised
+pub mod Values
+pub mod PairLaws
+pub mod SessionLaws
+pub mod Begun
+pub mod Ends
+pub mod Searched

@@ -1,0 +1,9 @@
+pub mod Classes
+pub mod Datatypes
+pub mod Expanding
+pub mod LawfulNames
+pub mod LawfulReferences
+pub mod Meanings
+pub mod NameParts
+pub mod QuotedParts
+pub mod Refers
