@@ -4,7 +4,8 @@
 usage: bench/try_repair_lines.py
 
 The lines are taken from the README and run over each document `repair.txt` of the examples. What they make of the data
-is compared with the data as the document edits it: read here, and, where the program is built, by its command `apply`.
+is compared with the data as the document edits it: read here, and, where the program is built, by its command `apply`
+over the data as N-Triples and as Turtle.
 Where Python's `rdflib` is installed, it carries out the update, and where `rapper` is, it reads the N-Triples. Prints a
 line for each example, and ends with status 0 exactly where all is as it should be.
 """
@@ -83,9 +84,10 @@ def try_example(name, folder):
     assert updated(data, read(folder, 'repair.ru')) == wanted, name
     judges = []
     if os.path.exists(PROGRAM):
-        applied = subprocess.run([PROGRAM, 'apply', os.path.join(EXAMPLES, name, 'data.nt'), 'repair.txt'], cwd=folder,
-                                 capture_output=True, check=True).stdout.decode('utf-8')
-        assert triples(applied) == wanted, name
+        for format in ('nt', 'ttl'):
+            applied = subprocess.run([PROGRAM, 'apply', os.path.join(EXAMPLES, name, f'data.{format}'), 'repair.txt'],
+                                     cwd=folder, capture_output=True, check=True).stdout.decode('utf-8')
+            assert triples(applied) == wanted, (name, format)
         judges.append('apply')
     made = by_rdflib(data, read(folder, 'repair.ru'))
     if made is not None:

@@ -48,7 +48,7 @@ fn long_documents_are_refused(rt: HostRuntime) -> Result<(), Fail> {
         Status::Input,
         "input: DOCUMENT: too long\n",
     )?;
-    // the length is told before the format
+    // the length is told before the grammar
     shelf.hold_repeated("d.ttl", b'\n', TOO_MANY)?;
     let turtle = ["explain", "s.nt", "d.ttl", "o.nt"];
     expect_note(

@@ -8,7 +8,7 @@ use Rattle.document_input.specs.declared.error.InputError.TheVariants.{Unread, R
 use Rattle.document_input.specs.declared.role.Role.{Role}
 use Rattle.rdf_terms.specs.Graph.{Graph}
 use Rattle.proof_documents.specs.Document.{Document as Claim}
-use Rattle.document_input.specs.NamedDocument.{NamedDocument, name_of, scope_of, IsGraph, IsClaim, IsInOrder, IsRefused}
+use Rattle.document_input.specs.NamedDocument.{NamedDocument, name_of, IsGraph, IsClaim, IsInOrder, IsRefused}
 use Rattle.document_input.specs.NamedDocument.NamedDocument.{GraphDocument, ClaimDocument}
 use Rattle.document_input.specs.Reading.{Holds, HoldsIn, HoldsInOrder, RoseFor, IsErrorAt, Reads, IsErrorIn}
 use Rattle.document_input.specs.Told.{Change, ShelfTold, Continues}
@@ -27,11 +27,11 @@ none_unread (document ∷ documents) shelf role calm (inl fault) = All-head (λ 
 none_unread (document ∷ documents) shelf role calm (inr later) = none_unread documents shelf role (All-tail (λ d. ¬ (RoseFor shelf d)) document documents calm) later.1
 
 -- a graph or a claim that was read stands in a document in order
-pub graph_in_order : (held : Held) (role : Role) (name : List ℕ) (g : Graph) → HoldsIn (IsGraph (scope_of role) name g) held name → HoldsInOrder held (GraphDocument role name)
+pub graph_in_order : (held : Held) (role : Role) (name : List ℕ) (g : Graph) → HoldsIn (IsGraph role name g) held name → HoldsInOrder held (GraphDocument role name)
 graph_in_order None role name g holds = tt
 graph_in_order (Some held) role name g holds = within (held name) holds
   where
-    within : (bytes : Option (List ℕ)) → Holds (IsGraph (scope_of role) name g) bytes → Holds (IsInOrder (GraphDocument role name)) bytes
+    within : (bytes : Option (List ℕ)) → Holds (IsGraph role name g) bytes → Holds (IsInOrder (GraphDocument role name)) bytes
     within None holds = holds
     within (Some bytes) holds = (g, holds)
 
@@ -62,7 +62,7 @@ here reads = record { first = inl reads.err }
 
 -- a graph was read, and the error is that of the documents behind it
 pub past_graph : {first second third : ShelfTold} {role : Role} {name : List ℕ} {g : Graph} {documents : List NamedDocument} {error : InputError}
-    → Reads (IsGraph (scope_of role) name) (GraphDocument role name) (record { before = first; after = second }) (Ok g)
+    → Reads (IsGraph role name) (GraphDocument role name) (record { before = first; after = second }) (Ok g)
     → StopsIn (record { before = second; after = third }) documents error → StopsIn (record { before = first; after = third }) (GraphDocument role name ∷ documents) error
 past_graph {first} {second} {third} {role} {name} {g} {documents} {error} reads later =
     record { first = inr (graph_in_order first.held role name g reads.ok, lift reads.later third documents error later.first) }

@@ -3,7 +3,8 @@ use Rattle.std.specs.Prelude.{ℕ, List, ◌++◌, codes, decimal}
 use Rattle.document_input.specs.declared.role.Role.{Role}
 use Rattle.document_input.specs.declared.role.Role.TheVariants.{Shapes, Data, Offered, Document}
 use Rattle.document_input.specs.declared.refusal.GraphRefusal.{GraphRefusal}
-use Rattle.document_input.specs.declared.refusal.GraphRefusal.TheVariants.{TooLong, NotReadYet, Line}
+use Rattle.document_input.specs.declared.refusal.GraphRefusal.TheVariants.{TooLong, Line, Statement, TooDeep}
+use Rattle.document_input.specs.declared.refusal.GraphRefusal.TheVariants.{ReservedLabel}
 use Rattle.document_input.specs.declared.refusal.DocumentRefusal.{DocumentRefusal}
 use Rattle.document_input.specs.declared.refusal.DocumentRefusal.TheVariants.{TooLong as TooLongClaim}
 use Rattle.document_input.specs.declared.refusal.DocumentRefusal.TheVariants.{Line as ClaimLine}
@@ -26,8 +27,10 @@ role_text Document = codes "DOCUMENT"
 
 abbrev pub graph_text : GraphRefusal → List ℕ
 graph_text TooLong = codes "too long"
-graph_text NotReadYet = codes "not read yet"
 graph_text (Line number) = codes "line " ++ decimal number
+graph_text (Statement at) = codes "statement at " ++ decimal at
+graph_text (TooDeep at) = codes "too deep at " ++ decimal at
+graph_text (ReservedLabel at) = codes "reserved label at " ++ decimal at
 
 abbrev pub document_text : DocumentRefusal → List ℕ
 document_text TooLongClaim = codes "too long"

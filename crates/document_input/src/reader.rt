@@ -1,5 +1,8 @@
-ghost use Rattle.std.specs.Prelude.{◌≡◌, IfOk, IfErr};
-ghost use Rattle.document_input.specs.NamedDocument.{scope_of, IsGraph, IsClaim, RefusesGraph, RefusesClaim};
+ghost use Rattle.std.specs.Prelude.{◌≡◌, IfOk, IfErr, true, false};
+ghost use Rattle.ntriples_io.specs.RoundTrip.{HasScope};
+ghost use Rattle.ntriples_io.specs.Text.{AreLawful};
+ghost use Rattle.document_input.specs.NamedDocument.{scope_of, IsTurtleName, IsGraph, IsClaim, RefusesGraph};
+ghost use Rattle.document_input.specs.NamedDocument.{RefusesClaim};
 ghost use Rattle.document_input.specs.NamedDocument.NamedDocument.{GraphDocument, ClaimDocument};
 ghost use Rattle.document_input.specs.Parsing.{IfShort, IsParseError, ReadsBytes};
 ghost use Rattle.document_input.specs.Reading.{Reads};
@@ -11,6 +14,7 @@ use proof_documents::{DocRefusal, DocumentText, read_document_text};
 use rdf_terms::{Bytes, Graph};
 use shelf_io::{ReadRefusal, Shelf, read_document};
 use std::alloc::Global;
+use turtle_io::{TurtleRefusal, read_turtle};
 
 /// Reads documents from a shelf, one after another.
 ///
@@ -35,11 +39,13 @@ impl<'a, H: Shelf> Reader<'a, H> {
         Reader { alloc, shelf }
     }
 
-    /// Reads the graph of that role from the document of that name: its length first, then its format,
-    /// then its grammar.
+    /// Reads the graph of that role from the document of that name: its length first, then its grammar, which is that
+    /// of Turtle where the name ends in `.ttl`, and else that of N-Triples.
     pub fn graph(&mut self, role: Role, name: &str) -> Result<Graph, InputError>
-        ensures read { Reads (IsGraph (scope_of role) name.now) (GraphDocument role name.now)
+        ensures read { Reads (IsGraph role name.now) (GraphDocument role name.now)
             (during (shelf_told H.held H.faults) self.old.shelf.now self.new.shelf.now) result }
+        ensures lawful { IfOk result AreLawful }
+        ensures scope { IfOk result (HasScope (scope_of role)) }
         ensures same_shelf { self.new.shelf.ghost_name ≡ self.old.shelf.ghost_name }
     {
         let too_long = InputRefusal::Graph {
@@ -76,14 +82,56 @@ impl<'a, H: Shelf> Reader<'a, H> {
     }
 }
 
+/// Whether a graph's document of that name is read as Turtle.
+fn is_turtle_name(name: &str) -> bool
+    ensures turtle { result ≡ true → IsTurtleName name.now }
+    ensures other { result ≡ false → ¬ (IsTurtleName name.now) }
+{
+    name.as_bytes().ends_with(b".ttl")
+}
+
 /// The graph of a document's bytes, by the format that its name tells.
 fn parse_graph(alloc: Global, role: Role, name: &str, bytes: &[u8]) -> Result<Graph, InputError>
-    ensures ok { IfOk result (λ g. IfShort (IsGraph (scope_of role) name.now g) bytes.now) }
+    ensures ok { IfOk result (λ g. IfShort (IsGraph role name.now g) bytes.now) }
     ensures err { IfErr result (IsParseError (RefusesGraph role name.now) bytes.now) }
+    ensures lawful { IfOk result AreLawful }
+    ensures scope { IfOk result (HasScope (scope_of role)) }
 {
-    if name.as_bytes().ends_with(b".ttl") {
-        return Err(graph_error(role, GraphRefusal::NotReadYet));
+    if is_turtle_name(name) {
+        return parse_turtle(alloc, role, name, bytes);
     }
+    parse_ntriples(alloc, role, name, bytes)
+}
+
+/// The graph of a document's bytes, read as Turtle.
+fn parse_turtle(alloc: Global, role: Role, name: &str, bytes: &[u8]) -> Result<Graph, InputError>
+    requires { IsTurtleName name.now }
+    ensures ok { IfOk result (λ g. IfShort (IsGraph role name.now g) bytes.now) }
+    ensures err { IfErr result (IsParseError (RefusesGraph role name.now) bytes.now) }
+    ensures lawful { IfOk result AreLawful }
+    ensures scope { IfOk result (HasScope (scope_of role)) }
+{
+    match read_turtle(alloc, bytes, role.turtle_role()) {
+        Ok(graph) => Ok(graph),
+        Err(TurtleRefusal::Syntax { statement_at }) => {
+            Err(graph_error(role, GraphRefusal::Statement { at: statement_at }))
+        }
+        Err(TurtleRefusal::TooDeep { at }) => Err(graph_error(role, GraphRefusal::TooDeep { at })),
+        Err(TurtleRefusal::ReservedLabel { at }) => {
+            Err(graph_error(role, GraphRefusal::ReservedLabel { at }))
+        }
+        Err(TurtleRefusal::OutOfMemory) => Err(InputError::OutOfMemory),
+    }
+}
+
+/// The graph of a document's bytes, read as N-Triples.
+fn parse_ntriples(alloc: Global, role: Role, name: &str, bytes: &[u8]) -> Result<Graph, InputError>
+    requires { ¬ (IsTurtleName name.now) }
+    ensures ok { IfOk result (λ g. IfShort (IsGraph role name.now g) bytes.now) }
+    ensures err { IfErr result (IsParseError (RefusesGraph role name.now) bytes.now) }
+    ensures lawful { IfOk result AreLawful }
+    ensures scope { IfOk result (HasScope (scope_of role)) }
+{
     match read_ntriples(alloc, role.scope(), bytes) {
         Ok(graph) => Ok(graph),
         Err(NtRefusal::Syntax { line }) => Err(graph_error(role, GraphRefusal::Line { line })),

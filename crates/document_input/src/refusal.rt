@@ -8,15 +8,20 @@ use rdf_terms::{Bytes, OutOfMemory, Term};
 use std::alloc::Global;
 use std::fmt;
 
-/// Why the document of a graph is refused.
+/// Why the document of a graph is refused. Bytes are counted from 0, and the first statement of Turtle that is not
+/// accepted is refused.
 #[derive(Debug, PartialEq, Eq, Drop)]
 pub enum GraphRefusal {
     /// It has more than 2^30 bytes.
     TooLong,
-    /// Its name ends in `.ttl`, and Turtle is not read yet.
-    NotReadYet,
-    /// That line, counted from 1, is the first that is no line of N-Triples.
+    /// As N-Triples: that line, counted from 1, is the first that is no line.
     Line { line: u64 },
+    /// As Turtle: the statement that begins at that byte is not in the grammar, or it has no meaning.
+    Statement { at: u64 },
+    /// As Turtle: the bracket at that byte is open beside 128 others.
+    TooDeep { at: u64 },
+    /// As Turtle: the label of the blank node at that byte begins with `x-anon-`.
+    ReservedLabel { at: u64 },
 }
 
 /// Why the document of a claim is refused.
@@ -79,8 +84,10 @@ impl fmt::Display for GraphRefusal {
     fn fmt<W: fmt::Write>(&self, f: &mut fmt::Formatter<W>) -> fmt::Result {
         match self {
             GraphRefusal::TooLong => f.write_str("too long"),
-            GraphRefusal::NotReadYet => f.write_str("not read yet"),
             GraphRefusal::Line { line } => write!(f, "line {line}"),
+            GraphRefusal::Statement { at } => write!(f, "statement at {at}"),
+            GraphRefusal::TooDeep { at } => write!(f, "too deep at {at}"),
+            GraphRefusal::ReservedLabel { at } => write!(f, "reserved label at {at}"),
         }
     }
 }

@@ -1,8 +1,9 @@
 ghost use Rattle.std.specs.Prelude.{◌≡◌};
-ghost use Rattle.document_input.specs.NamedDocument.{scope_of};
+ghost use Rattle.document_input.specs.NamedDocument.{scope_of, turtle_role_of};
 
 use rdf_terms::Scope;
 use std::fmt;
+use turtle_io::Role as TurtleRole;
 
 /// Which of the documents that the words name.
 #[derive(Clone, Copy, Debug, PartialEq, Eq)]
@@ -26,6 +27,17 @@ impl Role {
         match self {
             Role::Shapes => Scope::Shapes,
             Role::Data | Role::Offered | Role::Document => Scope::Data,
+        }
+    }
+
+    /// The role of a graph as a document of Turtle has it, by which its anonymous nodes are labelled.
+    pub(crate) fn turtle_role(&self) -> TurtleRole
+        ensures { result ≡ turtle_role_of self.now }
+    {
+        match self {
+            Role::Shapes => TurtleRole::Shapes,
+            Role::Data | Role::Document => TurtleRole::Data,
+            Role::Offered => TurtleRole::Offered,
         }
     }
 }

@@ -1,13 +1,11 @@
 -- What was made of the documents is the answer of the command, and an error of the input is named in the notes.
 use Rattle.std.proofs.Common.{IsTrue, ◌≡◌, ◌≢◌, ◌↔◌, List, [], ◌∷◌, ℕ, ◌<◌, Option, None, Some, Result, Ok, Err, OnOk, IfErr, refl, sym, ap, ◌∙◌, subst, ◌⊎◌, inl, inr}
-use Rattle.rdf_terms.specs.declared.term.Scope.TheVariants.{Data as OfData, Shapes as OfShapes}
+use Rattle.rdf_terms.specs.declared.term.Scope.TheVariants.{Data as OfData}
 use Rattle.rdf_terms.specs.Graph.{Graph, empty, of_list, without}
 use Rattle.repair_problem.specs.Setting.{Setting}
 use Rattle.rdf_terms.specs.declared.term.Term.{Term}
 use Rattle.ntriples_io.specs.RoundTrip.{HasScope}
 use Rattle.ntriples_io.specs.Text.{AreLawful}
-use Rattle.ntriples_io.proofs.LawfulText.{text_lawful}
-use Rattle.ntriples_io.proofs.ScopedText.{text_has_scope}
 use Rattle.shelf_io.specs.Held.{Held}
 use Rattle.std.specs.List.Sorted.{IsStrictlySortedBy}
 use Rattle.rdf_terms.proofs.Members.{in_none}
@@ -28,6 +26,7 @@ use Rattle.certificates.specs.declared.refusal.CheckRefusal.{CheckRefusal}
 use Rattle.certificates.specs.declared.refusal.CheckRefusal.TheVariants as reason
 use Rattle.certificates.specs.Checks.{IsVerdict, IsRejection, IsNotAccepted, IsAcceptedDocument}
 use Rattle.certificates.specs.Shown.{IsShown}
+use Rattle.document_input.specs.declared.role.Role.TheVariants.{Shapes, Data, Offered}
 use Rattle.document_input.specs.declared.error.InputError.{InputError}
 use Rattle.document_input.specs.declared.error.InputError.TheVariants.{Unread, Refused, OutOfMemory}
 use Rattle.document_input.specs.declared.refusal.ClaimRefusal.{ClaimRefusal}
@@ -68,10 +67,9 @@ error_answers command shelf (Unread role) report cause texts = inr (inr (record 
 error_answers command shelf (Refused refusal) report cause texts = inr (inl (record { refusal = refusal; first = cause; texts = texts }))
 error_answers command shelf OutOfMemory report cause texts = absurd texts
 
--- the graph of a document of data is lawful
-lawful_data : (name : List ℕ) (g : Graph) (held : Option (List ℕ)) → Holds (IsGraph OfData name g) held → AreLawful g × HasScope OfData g
-lawful_data name g None holds = absurd holds
-lawful_data name g (Some bytes) holds = (text_lawful bytes OfData g holds.text, text_has_scope bytes OfData g holds.text)
+-- the graph of a document with the blank nodes of the data is lawful
+abbrev pub IsLawfulData : Graph → Type 0
+IsLawfulData g = AreLawful g × HasScope OfData g
 
 -- ---- validate
 
@@ -91,8 +89,8 @@ validation_of s t g o rows report is none comparable exact sorted some texts =
 
 -- the graphs are those of the documents, where the shelf tells
 pub record ReadsTwo (held : Held) (s p : List ℕ) (t g : Graph) : Type 0 where
-  pub shapes : HoldsIn (IsGraph OfShapes s t) held s
-  pub present : HoldsIn (IsGraph OfData p g) held p
+  pub shapes : HoldsIn (IsGraph Shapes s t) held s
+  pub present : HoldsIn (IsGraph Data p g) held p
 
 are_validated : (held : Contents) (s p : List ℕ) (t g : Graph) → ReadsTwo (Some held) s p t g → AreGraphsOf s p held t g
 are_validated held s p t g reads = record { shapes = reads.shapes; present = reads.present }
@@ -123,34 +121,34 @@ validates s p shelf t g (Err OutOfMemory) reads is = tt
 
 -- the graphs are those of the documents, where the shelf tells
 pub record ReadsGraphs (held : Held) (n : Names) (g : Graphs) : Type 0 where
-  pub shapes : HoldsIn (IsGraph OfShapes n.shapes g.shapes) held n.shapes
-  pub present : HoldsIn (IsGraph OfData n.present g.present) held n.present
-  pub offered : HoldsIn (IsGraph OfData n.offered g.offered) held n.offered
+  pub shapes : HoldsIn (IsGraph Shapes n.shapes g.shapes) held n.shapes
+  pub present : HoldsIn (IsGraph Data n.present g.present) held n.present
+  pub offered : HoldsIn (IsGraph Offered n.offered g.offered) held n.offered
 
 are_held : (held : Contents) (n : Names) (g : Graphs) → ReadsGraphs (Some held) n g → AreHeld n held g
 are_held held n g reads = record { shapes = reads.shapes; present = reads.present; offered = reads.offered }
 
-explained : (s p o : List ℕ) (n : ℕ) (held : Held) (g : Graphs) (report : Report) → ReadsGraphs held (names s p o) g → IsExplanationReport g n report → IsAnswerIn (Explain s p o n) held report
-explained s p o n None g report reads is = is.status
-explained s p o n (Some held) g report reads is =
-    let spelled = spellable g.present g.offered (lawful_data p g.present (held p) reads.present) (lawful_data o g.offered (held o) reads.offered) g.shapes in
+explained : (s p o : List ℕ) (n : ℕ) (held : Held) (g : Graphs) (report : Report) → ReadsGraphs held (names s p o) g → IsLawfulData g.present → IsLawfulData g.offered → IsExplanationReport g n report → IsAnswerIn (Explain s p o n) held report
+explained s p o n None g report reads mine theirs is = is.status
+explained s p o n (Some held) g report reads mine theirs is =
+    let spelled = spellable g.present g.offered mine theirs g.shapes in
     record { graphs = g; input = record { documents = are_held held (names s p o) g reads; profile = is.profile; comparable = is.comparable }; explained = is.explained spelled }
 
 unfit_for_repair : (s p o : List ℕ) (n : ℕ) (held : Held) (g : Graphs) (refusal : InputRefusal) → ReadsGraphs held (names s p o) g → IsUnfitInput g.shapes g.present g.offered refusal → RefusesIn (Explain s p o n) held refusal
 unfit_for_repair s p o n None g refusal reads unfit = tt
 unfit_for_repair s p o n (Some held) g refusal reads unfit = inr (record { graphs = g; documents = are_held held (names s p o) g reads; unfit = unfit })
 
-pub explains : (s p o : List ℕ) (n : ℕ) (shelf : Change ShelfTold) (g : Graphs) (result : Result Report InputError) → ReadsGraphs shelf.before.held (names s p o) g → ReportsExplanation g n result → AnswersCommand (Explain s p o n) shelf result
-explains s p o n shelf g (Ok report) reads is = explained s p o n shelf.before.held g report reads is
-explains s p o n shelf g (Err (Unread role)) reads is = absurd is
-explains s p o n shelf g (Err (Refused refusal)) reads is = unfit_for_repair s p o n shelf.before.held g refusal reads is
-explains s p o n shelf g (Err OutOfMemory) reads is = tt
+pub explains : (s p o : List ℕ) (n : ℕ) (shelf : Change ShelfTold) (g : Graphs) (result : Result Report InputError) → ReadsGraphs shelf.before.held (names s p o) g → IsLawfulData g.present → IsLawfulData g.offered → ReportsExplanation g n result → AnswersCommand (Explain s p o n) shelf result
+explains s p o n shelf g (Ok report) reads mine theirs is = explained s p o n shelf.before.held g report reads mine theirs is
+explains s p o n shelf g (Err (Unread role)) reads mine theirs is = absurd is
+explains s p o n shelf g (Err (Refused refusal)) reads mine theirs is = unfit_for_repair s p o n shelf.before.held g refusal reads is
+explains s p o n shelf g (Err OutOfMemory) reads mine theirs is = tt
 
 -- ---- apply
 
 -- the data and the claim are those of the documents, where the shelf tells
 pub record ReadsClaim (held : Held) (p d : List ℕ) (g : Graph) (claim : Claim) : Type 0 where
-  pub present : HoldsIn (IsGraph OfData p g) held p
+  pub present : HoldsIn (IsGraph Data p g) held p
   pub claimed : HoldsIn (IsClaim claim) held d
 
 are_applied : (held : Contents) (p d : List ℕ) (g : Graph) (claim : Claim) → ReadsClaim (Some held) p d g claim → AreApplied p d held g claim
@@ -160,29 +158,28 @@ well_formed : (claim : Claim) (held : Option (List ℕ)) → Holds (IsClaim clai
 well_formed claim None holds = absurd holds
 well_formed claim (Some bytes) holds = holds.text.well_formed
 
-lawful_edit : (held : Contents) (p d : List ℕ) (g : Graph) (claim : Claim) (made : Graph) → AreApplied p d held g claim → Edits g claim made → AreLawful made × HasScope OfData made
-lawful_edit held p d g claim made reads edits =
-    let old = lawful_data p g (held p) reads.present in
+lawful_edit : (held : Contents) (p d : List ℕ) (g : Graph) (claim : Claim) (made : Graph) → AreApplied p d held g claim → IsLawfulData g → Edits g claim made → IsLawfulData made
+lawful_edit held p d g claim made reads old edits =
     edited_lawful g claim made (well_formed claim (held d) reads.claimed) edits old.0 old.1
 
-edited : (p d : List ℕ) (held : Held) (g : Graph) (claim : Claim) (made : Graph) (report : Report) → ReadsClaim held p d g claim → Edits g claim made → IsEditedReport made report → IsAnswerIn (Apply p d) held report
-edited p d None g claim made report reads edits texts = inl (ap (λ (r : Report). r.status) texts.texts)
-edited p d (Some held) g claim made report reads edits texts =
+edited : (p d : List ℕ) (held : Held) (g : Graph) (claim : Claim) (made : Graph) (report : Report) → ReadsClaim held p d g claim → IsLawfulData g → Edits g claim made → IsEditedReport made report → IsAnswerIn (Apply p d) held report
+edited p d None g claim made report reads old edits texts = inl (ap (λ (r : Report). r.status) texts.texts)
+edited p d (Some held) g claim made report reads old edits texts =
     let documents = are_applied held p d g claim reads in
-    let lawful = lawful_edit held p d g claim made documents edits in
+    let lawful = lawful_edit held p d g claim made documents old edits in
     record { present = g; claim = claim; documents = documents; made = made; edits = edits; texts = texts.texts; read_back = texts.read_back lawful.0 lawful.1 }
 
 unfit : (p d : List ℕ) (held : Held) (g : Graph) (claim : Claim) (reason : ClaimRefusal) → ReadsClaim held p d g claim → IsUnfitFor g claim reason → RefusesIn (Apply p d) held (OfTheClaim reason)
 unfit p d None g claim reason reads fault = tt
 unfit p d (Some held) g claim reason reads fault = inr (record { present = g; claim = claim; documents = are_applied held p d g claim reads; reason = reason; is = refl; unfit = fault })
 
-pub applies : (p d : List ℕ) (shelf : Change ShelfTold) (g : Graph) (claim : Claim) (made : Result Graph ApplyRefusal) (result : Result Report InputError) → ReadsClaim shelf.before.held p d g claim → Applies g claim made → ReportsEdited made result
+pub applies : (p d : List ℕ) (shelf : Change ShelfTold) (g : Graph) (claim : Claim) (made : Result Graph ApplyRefusal) (result : Result Report InputError) → ReadsClaim shelf.before.held p d g claim → IsLawfulData g → Applies g claim made → ReportsEdited made result
     → AnswersCommand (Apply p d) shelf result
-applies p d shelf g claim (Ok made) (Ok report) reads edits texts = edited p d shelf.before.held g claim made report reads edits texts
-applies p d shelf g claim (Ok made) (Err error) reads edits is = subst (IsErrorOf (Apply p d) shelf) (sym is) tt
-applies p d shelf g claim (Err ClaimsNoPair) result reads fault is = refused (Apply p d) shelf _ result (unfit p d shelf.before.held g claim NotOfPair reads fault) is
-applies p d shelf g claim (Err (OutsideData number)) result reads fault is = refused (Apply p d) shelf _ result (unfit p d shelf.before.held g claim (PairOutside number) reads fault) is
-applies p d shelf g claim (Err NoMemory) result reads fault is = subst (AnswersCommand (Apply p d) shelf) (sym is) tt
+applies p d shelf g claim (Ok made) (Ok report) reads old edits texts = edited p d shelf.before.held g claim made report reads old edits texts
+applies p d shelf g claim (Ok made) (Err error) reads old edits is = subst (IsErrorOf (Apply p d) shelf) (sym is) tt
+applies p d shelf g claim (Err ClaimsNoPair) result reads old fault is = refused (Apply p d) shelf _ result (unfit p d shelf.before.held g claim NotOfPair reads fault) is
+applies p d shelf g claim (Err (OutsideData number)) result reads old fault is = refused (Apply p d) shelf _ result (unfit p d shelf.before.held g claim (PairOutside number) reads fault) is
+applies p d shelf g claim (Err NoMemory) result reads old fault is = subst (AnswersCommand (Apply p d) shelf) (sym is) tt
 
 -- ---- check
 

@@ -1,6 +1,5 @@
 -- An input that is in order is not refused.
 use Rattle.std.proofs.Common.{◌≡◌, ℕ, inl, inr, List, Some, sym, subst}
-use Rattle.rdf_terms.specs.declared.term.Scope.TheVariants.{Data as OfData, Shapes as OfShapes}
 use Rattle.rdf_terms.specs.Graph.{Graph, empty}
 use Rattle.shapes_profile.specs.declared.refusals.ShapeRefusal.{ShapeRefusal}
 use Rattle.shapes_profile.specs.Logic.{IsFirst, NoneOf}
@@ -42,9 +41,9 @@ check_in_order n d held g claim reads = (
 -- the input is that of one list of graphs
 pub one_input : (n : Names) (held : Contents) (g h : Graphs) → AreHeld n held g → AreHeld n held h → g ≡ h
 one_input n held g h a b =
-    let s = one_graph OfShapes _ n.shapes g.shapes h.shapes a.shapes b.shapes in
-    let p = one_graph OfData _ n.present g.present h.present a.present b.present in
-    let o = one_graph OfData _ n.offered g.offered h.offered a.offered b.offered in
+    let s = one_graph Shapes _ n.shapes g.shapes h.shapes a.shapes b.shapes in
+    let p = one_graph Data _ n.present g.present h.present a.present b.present in
+    let o = one_graph Offered _ n.offered g.offered h.offered a.offered b.offered in
     λ i. record { shapes = s i; present = p i; offered = o i }
 
 -- a graph in the profile has no cause why it isn't
@@ -75,7 +74,7 @@ valid_fits s g o (OfTheClaim reason) profile comparable unfit = unfit
 
 -- the graphs that a command validates are those of one shapes graph and one data graph
 pub one_validated : (s p : List ℕ) (held : Contents) (t g u h : Graph) → AreGraphsOf s p held t g → AreGraphsOf s p held u h → (t ≡ u) × (g ≡ h)
-one_validated s p held t g u h a b = (one_graph OfShapes (held s) s t u a.shapes b.shapes, one_graph OfData (held p) p g h a.present b.present)
+one_validated s p held t g u h a b = (one_graph Shapes (held s) s t u a.shapes b.shapes, one_graph Data (held p) p g h a.present b.present)
 
 -- a claim that edits the data can be applied to it
 fits : (g : Graph) (claim : Claim) (made : Graph) (reason : ClaimRefusal) → Edits g claim made → IsUnfitFor g claim reason → ⊥
@@ -118,7 +117,7 @@ ready_unrefused (Apply p d) held ready refuses =
     elim refuses.1 [
       | inl first ↦ documents_unrefused (documents_of (Apply p d)) held refuses.0 (apply_in_order p d held ready.present ready.claim ready.documents) first
       | inr behind ↦
-          let same_graph = one_graph OfData (held p) p ready.present behind.present ready.documents.present behind.documents.present in
+          let same_graph = one_graph Data (held p) p ready.present behind.present ready.documents.present behind.documents.present in
           let same_claim = one_claim (held d) ready.claim behind.claim ready.documents.claimed behind.documents.claimed in
           let fault = subst (λ (c : Claim). IsUnfitFor ready.present c behind.reason) (sym same_claim) (subst (λ (g : Graph). IsUnfitFor g behind.claim behind.reason) (sym same_graph) behind.unfit) in
           fits ready.present ready.claim ready.made behind.reason ready.edits fault

@@ -1,7 +1,6 @@
 -- The input of a command: which documents its words name, what they are together, and what is refused.
 use Rattle.std.specs.Prelude.{◌≡◌, ◌≢◌, ℕ, ◌⊎◌, IsTrue, List, [], ◌∷◌, Option, None, Some}
 use Rattle.rdf_terms.specs.Graph.{Graph, empty, without}
-use Rattle.rdf_terms.specs.declared.term.Scope.TheVariants.{Data as OfData, Shapes as OfShapes}
 use Rattle.proof_lines.specs.declared.proof.Claim.TheVariants.{Pair as ClaimsPair}
 use Rattle.proof_documents.specs.Document.{Document as Claim}
 use Rattle.proof_documents.specs.Applying.{IsUnfit}
@@ -45,8 +44,8 @@ documents_of (Check shapes present offered document) =
 
 -- the graphs are those of the documents, which have blank nodes of their own
 pub record AreGraphsOf (shapes_name data_name : List ℕ) (held : Contents) (s g : Graph) : Type 0 where
-  pub shapes : Holds (IsGraph OfShapes shapes_name s) (held shapes_name)
-  pub present : Holds (IsGraph OfData data_name g) (held data_name)
+  pub shapes : Holds (IsGraph Shapes shapes_name s) (held shapes_name)
+  pub present : Holds (IsGraph Data data_name g) (held data_name)
 
 -- no literal that a range constraint would have to compare is out of reach
 abbrev pub AreComparable : Graph → Graph → Graph → Type 0
@@ -104,11 +103,11 @@ abbrev pub graphs_of : Graph → Graph → Graph → Graphs
 graphs_of shapes present offered = record { shapes = shapes; present = present; offered = offered }
 
 -- The graphs are those of the documents. The data and the offered triples share their blank nodes, and the
--- shapes have their own.
+-- shapes have their own. The label of an anonymous node of Turtle tells the role of its document.
 pub record AreHeld (names : Names) (held : Contents) (g : Graphs) : Type 0 where
-  pub shapes : Holds (IsGraph OfShapes names.shapes g.shapes) (held names.shapes)
-  pub present : Holds (IsGraph OfData names.present g.present) (held names.present)
-  pub offered : Holds (IsGraph OfData names.offered g.offered) (held names.offered)
+  pub shapes : Holds (IsGraph Shapes names.shapes g.shapes) (held names.shapes)
+  pub present : Holds (IsGraph Data names.present g.present) (held names.present)
+  pub offered : Holds (IsGraph Offered names.offered g.offered) (held names.offered)
 
 -- the graphs are those of the documents, the shapes are in the profile, and the literals can be compared
 pub record IsInput (names : Names) (held : Contents) (g : Graphs) : Type 0 where
@@ -130,7 +129,7 @@ setting_of g = setting g.shapes g.present (without g.offered g.present)
 
 -- the graph and the claim are those of the documents
 pub record AreApplied (data_name claim_name : List ℕ) (held : Contents) (g : Graph) (claim : Claim) : Type 0 where
-  pub present : Holds (IsGraph OfData data_name g) (held data_name)
+  pub present : Holds (IsGraph Data data_name g) (held data_name)
   pub claimed : Holds (IsClaim claim) (held claim_name)
 
 -- the claim can't be applied to the data: first where it is not that of a pair

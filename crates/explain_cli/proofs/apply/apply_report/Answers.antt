@@ -15,4 +15,4 @@ returns-clause-answer g c =
     let told = shelf_told g.H.Shelf.held g.H.Shelf.faults in
     applies c.args.present.now c.args.document.now (during told c.args.reader.now.shelf.now c.document.new.self.shelf.now)
     _ c.in_ok-claim.claim c.apply_document-edited.result c.edited_report.result
-    (record { present = c.in_ok-present.ensures.read.ok; claimed = rw c.graph.ensures.read.later.kept at c.in_ok-claim.ensures.read.ok }) c.apply_document-edited.ensures c.edited_report.ensures
+    (record { present = c.in_ok-present.ensures.read.ok; claimed = rw c.graph.ensures.read.later.kept at c.in_ok-claim.ensures.read.ok }) (c.in_ok-present.ensures.lawful, c.in_ok-present.ensures.scope) c.apply_document-edited.ensures c.edited_report.ensures

@@ -25,4 +25,5 @@ returns-clause-answer g c =
     explains c.args.shapes.now c.args.present.now c.args.offered.now c.args.conflicts (during told c.args.reader.now.shelf.now c.graph-3.new.self.shelf.now)
     (record { shapes = c.in_ok-shapes.shapes; present = c.in_ok-present.present; offered = c.in_ok-offered.offered }) c.report_explanation.result
     (record { shapes = c.in_ok-shapes.ensures.read.ok; present = rw first at c.in_ok-present.ensures.read.ok; offered = rw (second, first) at c.in_ok-offered.ensures.read.ok })
+    (c.in_ok-present.ensures.lawful, c.in_ok-present.ensures.scope) (c.in_ok-offered.ensures.lawful, c.in_ok-offered.ensures.scope)
     c.report_explanation.ensures

@@ -1,0 +1,5 @@
+pub mod Going
+pub mod LawfulDocuments
+pub mod LawfulTerms
+pub mod OnlyAnswer
+pub mod Utf8References
