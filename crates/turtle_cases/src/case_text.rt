@@ -1,5 +1,5 @@
 //! How cases are written: a line `== ROLE NAME` begins a case, where ROLE is `data`, `offered` or `shapes`, or `cut`
-//! for a document of data that is read behind each of its bytes too. The lines up to the next such line are its
+//! for a document of data each of whose fronts is read too. The lines up to the next such line are its
 //! document, each with its LF, but for a last one that ends in `{}`. In a line `{XX}` is the byte with these two
 //! hexadecimal digits, and `{TEXT*N}` the text N times. Before the first case stands nothing.
 
@@ -12,13 +12,13 @@ use turtle_io::Role;
 pub struct Case {
     pub name: String,
     pub role: Role,
-    /// Whether the document is read behind each of its bytes too.
+    /// Whether each front of the document is read too.
     pub is_cut: bool,
     pub document: Vec<u8>,
 }
 
 impl Case {
-    /// The case that such a line begins, with an empty document.
+    /// The case of a heading, which is what stands behind `== `, with an empty document. `None` where it is no heading.
     fn new(alloc: Global, heading: &str) -> Result<Option<Case>, AllocError> {
         let Some((word, name)) = heading.split_once(' ') else {
             return Ok(None);

@@ -12,7 +12,8 @@ use turtle_tokens::TokenFault;
 #[derive(Clone, Copy, Debug, PartialEq, Eq, Error)]
 pub enum TurtleRefusal {
     /// The statement that begins at this place is not in the grammar of Turtle, or it has no meaning: a prefix that is
-    /// not declared, a relative reference without a base, an escape of no character, or `rdf:langString` behind `^^`.
+    /// not declared, a relative reference without a base, an escape of no character that may stand there, or
+    /// `rdf:langString` behind `^^`.
     #[error("statement at {statement_at}")]
     Syntax { statement_at: u64 },
     /// The bracket at this place is open beside 128 others.

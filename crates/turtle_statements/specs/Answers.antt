@@ -1,4 +1,5 @@
--- What a function of the code answers that reads tokens from the left. Private functions cite it.
+-- What a function of the code answers that reads tokens from the left. Private functions cite it, and the contract of
+-- `read_statement` its `tokens_of`.
 use Rattle.std.specs.Prelude.{◌≡◌, List, Option, Some, None, Result, Ok, Err, map}
 use Rattle.std.specs.Borrow.{Bor}
 use Rattle.grammar_forms.specs.Reading.{Read}

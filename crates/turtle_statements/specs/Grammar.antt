@@ -108,7 +108,8 @@ object names zero = plain_term names
 object names (suc depth) =
     plain_term names ∣ collection names (object names depth) ∣ bracketed names (object names depth)
 
--- no more brackets than these are open at a place, which is seen before a statement is read
+-- objects hold no more brackets than these inside one another; that no more are open in all is asked of the tokens
+-- before (turtle_tokens: Faults)
 abbrev pub most_open : ℕ
 most_open = 128
 

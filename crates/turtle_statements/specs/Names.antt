@@ -1,4 +1,4 @@
--- What the directives before a statement leave: RDF 1.1 Turtle, sections 2.4 and 6.2.
+-- What the directives before a statement leave: RDF 1.1 Turtle, sections 2.4 and 7.1.
 use Rattle.std.specs.Prelude.{ℕ, List, [], Option, Some, None, All, IfSome}
 use Rattle.std.specs.BTreeMap.{insert_entry, is_at}
 use Rattle.std.specs.Map.{lookup, values_of}

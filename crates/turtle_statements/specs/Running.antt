@@ -181,12 +181,13 @@ RunsTokens = Output → List PlacedToken → Read PlacedToken Output
 abbrev pub said_object : RunsObject → Term → Term → Output → List PlacedToken → Read PlacedToken Output
 said_object r subject verb o ts = option_map (λ x. (say subject verb x.0.0 x.0.1, x.1)) (r o ts)
 
--- the members of a collection, from the one of this cell on. The number bounds how many there are
+-- what stands behind a member of a collection: its end, or the next member, with a cell of its own
 abbrev pub member_next : Role → (Term → RunsTokens) → Term → Output → List PlacedToken → Option (List PlacedToken)
     → Read PlacedToken Output
 member_next role go cell o ts (Some after) = Some (say cell rdf.rest rdf.nil o, after)
 member_next role go cell o ts None = go (new_node role o) (say cell rdf.rest (new_node role o) (one_more o)) ts
 
+-- the members of a collection, from the one of this cell on. The number bounds how many there are
 unfoldable pub members_run : Role → RunsObject → ℕ → Term → Output → List PlacedToken → Read PlacedToken Output
 members_run role r zero cell o ts = None
 members_run role r (suc n) cell o ts =

@@ -4,7 +4,7 @@ use rdf_terms::{OutOfMemory, Text};
 use std::alloc::Global;
 use std::collections::BTreeMap;
 
-/// What the directives so far leave (RDF 1.1 Turtle, sections 2.4 and 6.2). The latest directive counts.
+/// What the directives so far leave (RDF 1.1 Turtle, sections 2.4 and 7.1). The latest directive counts.
 #[derive(Drop)]
 pub struct Context {
     /// Which document is read.

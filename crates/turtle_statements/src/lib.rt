@@ -5,7 +5,8 @@
 //! function of the triples so far and of the number of anonymous nodes so far. `read_statement` reads all tokens of one
 //! statement.
 //!
-//! Brackets are read by recursion, at most `MOST_OPEN` of them inside one another; lists are read by loops.
+//! Brackets are read by recursion, and lists by loops. An object has at most `MOST_OPEN` brackets inside one another, a
+//! subject one more; that no more than these are open at a place of a document is for `token_fault` to see before.
 #![tactic(auto)]
 
 mod context;

@@ -22,7 +22,7 @@ use std::alloc::Global;
 use turtle_terms::{Keyword, split_name};
 use turtle_tokens::{Token, TokenKind};
 
-/// How many brackets may be open at a time.
+/// How many brackets an object may have inside one another.
 const MOST_OPEN: u64 = 128;
 
 /// What a statement begins with.
